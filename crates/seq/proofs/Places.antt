@@ -1,0 +1,118 @@
+-- Laws of lists by place, and of the loops that make them.
+use mathlib.Core.Path.{_≡_, refl, ap}
+use mathlib.Core.List.{List, [], _∷_, _++_}
+use mathlib.Core.Bool.{Bool, true, false, cond}
+use Prim.Native.Nat.{ℕ, zero, suc, _+_, _≤_, _<_}
+use native.Mathlib.Numerals.{add-one}
+use native.Mathlib.Omega.{arith}
+use lib.ListN.{length, getD, set}
+use Rattle.seq.specs.Places.{tab, over, lead}
+
+module _ {A : Type 0} where
+  pub tab-length : (n : ℕ) (f : ℕ → A) → length (tab n f) ≡ n
+  unfolding tab
+  tab-length zero f = refl
+  tab-length (suc n) f = rw (tab-length n (λ i. f (suc i)))
+
+  pub tab-at : (n : ℕ) (f : ℕ → A) (i : ℕ) (d : A) → i < n → getD (tab n f) i d ≡ f i
+  unfolding tab
+  tab-at zero f i d h = absurd (omega arith)
+  tab-at (suc n) f zero d h = refl
+  tab-at (suc n) f (suc i) d h = tab-at n (λ i. f (suc i)) i d (omega arith)
+
+  pub tab-suc : (n : ℕ) (f : ℕ → A) → tab (suc n) f ≡ tab n f ++ f n ∷ []
+  unfolding tab
+  tab-suc zero f = refl
+  tab-suc (suc n) f = ap (λ (l : List A). f 0 ∷ l) (tab-suc n (λ i. f (suc i)))
+
+  -- a loop that goes over the first places
+  pub over-length : (n : ℕ) (f : ℕ → A → A) (l : List A) → length (over n f l) ≡ length l
+  unfolding over
+  over-length zero f l = refl
+  over-length (suc n) f [] = refl
+  over-length (suc n) f (x ∷ l) = ap suc (over-length n (λ i. f (suc i)) l)
+
+  pub over-in : (d : A) (n : ℕ) (f : ℕ → A → A) (l : List A) (i : ℕ) → i < n → i < length l → getD (over n f l) i d ≡ f i (getD l i d)
+  unfolding over
+  over-in d zero f l i h g = absurd (omega arith)
+  over-in d (suc n) f [] i h g = absurd (omega arith)
+  over-in d (suc n) f (x ∷ l) zero h g = refl
+  over-in d (suc n) f (x ∷ l) (suc i) h g = over-in d n (λ i. f (suc i)) l i (omega arith) (omega arith)
+
+  pub over-out : (d : A) (n : ℕ) (f : ℕ → A → A) (l : List A) (i : ℕ) → n ≤ i → getD (over n f l) i d ≡ getD l i d
+  unfolding over
+  over-out d zero f l i h = refl
+  over-out d (suc n) f [] i h = refl
+  over-out d (suc n) f (x ∷ l) zero h = absurd (omega arith)
+  over-out d (suc n) f (x ∷ l) (suc i) h = over-out d n (λ i. f (suc i)) l i (omega arith)
+
+  over-set : (d : A) (n : ℕ) (f : ℕ → A → A) (l : List A) → set (over n f l) n (f n (getD l n d)) ≡ over (suc n) f l
+  unfolding over
+  over-set d zero f [] = refl
+  over-set d zero f (x ∷ l) = refl
+  over-set d (suc n) f [] = refl
+  over-set d (suc n) f (x ∷ l) = ap (λ (k : List A). f 0 x ∷ k) (over-set d n (λ i. f (suc i)) l)
+
+  -- one more place
+  pub over-more : (d : A) (i : ℕ) (f : ℕ → A → A) (l now : List A) (x : A) → now ≡ over i f l → x ≡ f i (getD l i d) → set now i x ≡ over (i + 1) f l
+  over-more d i f l now x m e = rw (m, e, add-one i) (over-set d i f l)
+
+  -- what stands from i on is still the old
+  pub over-at : (d : A) (i : ℕ) (f : ℕ → A → A) (l now : List A) (j : ℕ) → now ≡ over i f l → i ≤ j → getD now j d ≡ getD l j d
+  over-at d i f l now j m h = rw m (over-out d i f l j h)
+
+  -- nothing changes
+  pub over-same : (n : ℕ) (f : ℕ → A → A) (l : List A) → ((i : ℕ) (x : A) → i < n → f i x ≡ x) → l ≡ over n f l
+  unfolding over
+  over-same zero f l e = refl
+  over-same (suc n) f [] e = refl
+  over-same (suc n) f (x ∷ l) e = rw (e 0 x (omega arith), ← over-same n (λ i. f (suc i)) l (λ i y h. e (suc i) y (omega arith)))
+
+  -- one place changes
+  pub over-one : (d : A) (n : ℕ) (f : ℕ → A → A) (l : List A) (r : ℕ) (v : A) → r < n → v ≡ f r (getD l r d) → ((i : ℕ) (x : A) → (i ≡ r → ⊥) → f i x ≡ x) → set l r v ≡ over n f l
+  unfolding over
+  over-one d zero f l r v h e g = absurd (omega arith)
+  over-one d (suc n) f [] r v h e g = refl
+  over-one d (suc n) f (x ∷ l) zero v h e g = rw (e, ← over-same n (λ i. f (suc i)) l (λ i y h. g (suc i) y (λ q. omega arith)))
+  over-one d (suc n) f (x ∷ l) (suc r) v h e g = rw (g 0 x (λ q. omega arith)) (ap (λ (k : List A). x ∷ k) (over-one d n (λ i. f (suc i)) l r v (omega arith) e (λ i y q. g (suc i) y (λ p. q (omega arith)))))
+
+-- the first that has not p
+step-most : (b : Bool) {x n : ℕ} → x ≤ n → cond b (suc x) 0 ≤ suc n
+step-most true h = omega arith
+step-most false h = omega arith
+
+step-miss : (b : Bool) {x i : ℕ} → (i ≤ x → i < x) → suc i ≤ cond b (suc x) 0 → suc i < cond b (suc x) 0
+step-miss true h g = omega (arith, h (omega arith))
+step-miss false h g = absurd (omega arith)
+
+step-hit : (b : Bool) {x i : ℕ} → (i ≤ x → x ≡ i) → suc i ≤ cond b (suc x) 0 → cond b (suc x) 0 ≡ suc i
+step-hit true h g = ap suc (h (omega arith))
+step-hit false h g = absurd (omega arith)
+
+pub lead-most : (n : ℕ) (p : ℕ → Bool) → lead n p ≤ n
+unfolding lead
+lead-most zero p = omega arith
+lead-most (suc n) p = step-most (p 0) (lead-most n (λ i. p (suc i)))
+
+pub lead-miss : (n : ℕ) (p : ℕ → Bool) (i : ℕ) → i < n → p i ≡ true → i ≤ lead n p → i < lead n p
+unfolding lead
+lead-miss zero p i h e g = absurd (omega arith)
+lead-miss (suc n) p zero h e g = rw e (omega arith)
+lead-miss (suc n) p (suc i) h e g = step-miss (p 0) (lead-miss n (λ j. p (suc j)) i (omega arith) e) g
+
+pub lead-hit : (n : ℕ) (p : ℕ → Bool) (i : ℕ) → i < n → p i ≡ false → i ≤ lead n p → lead n p ≡ i
+unfolding lead
+lead-hit zero p i h e g = absurd (omega arith)
+lead-hit (suc n) p zero h e g = rw e
+lead-hit (suc n) p (suc i) h e g = step-hit (p 0) (lead-hit n (λ j. p (suc j)) i (omega arith) e) g
+
+-- where all have p, each has it
+step-all : (b : Bool) {x n : ℕ} → x ≤ n → suc n ≤ cond b (suc x) 0 → (b ≡ true) × (n ≤ x)
+step-all true h g = (refl, omega arith)
+step-all false h g = absurd (omega arith)
+
+pub lead-all : (n : ℕ) (p : ℕ → Bool) → n ≤ lead n p → (i : ℕ) → i < n → p i ≡ true
+unfolding lead
+lead-all zero p g i h = absurd (omega arith)
+lead-all (suc n) p g zero h = step-all (p 0) (lead-most n (λ i. p (suc i))) g .0
+lead-all (suc n) p g (suc i) h = lead-all n (λ i. p (suc i)) (step-all (p 0) (lead-most n (λ i. p (suc i))) g .1) i (omega arith)

@@ -1,0 +1,76 @@
+-- Laws of words of bits.
+use mathlib.Core.Path.{_≡_, refl}
+use mathlib.Core.List.{List, [], _∷_, _++_}
+use mathlib.Core.Bool.{Bool, true, false}
+use Prim.Native.Nat.{ℕ, zero, suc, _+_, _*_, _/_, _%_, _^_, _≤_, _<_}
+use native.Mathlib.Numerals.{add-one}
+use native.Mathlib.Omega.{arith}
+use native.Mathlib.Nat.{pow-suc, mul-comm, mul-assoc, add-zero, div-div-eq-div-mul, div-eq-of-lt}
+use lib.ListN.{length, getD}
+use lib.Bits.{bitOr, or-shifted-r}
+use lib.Pow.{pow-pos, shl-exact}
+use lib.Count.{ones, ones-step}
+use lib.Dec.{eqb}
+use Rattle.seq.specs.Places.{flag, tab}
+use Rattle.seq.specs.Words.{word, trues, bit}
+use Rattle.seq.proofs.Places.{tab-length, tab-at, tab-suc}
+
+-- words
+flag-le : (b : Bool) → flag b ≤ 1
+flag-le true = omega arith
+flag-le false = omega arith
+
+low : (b : Bool) (n : ℕ) → (flag b + 2 * n) % 2 ≡ flag b
+low b n = omega (arith, flag-le b)
+
+high : (b : Bool) (n : ℕ) → (flag b + 2 * n) / 2 ≡ n
+high b n = omega (arith, flag-le b)
+
+flag-one : (b : Bool) → eqb (flag b) 1 ≡ b
+flag-one true = refl
+flag-one false = refl
+
+-- the trues of ones of a word is the number of its flags
+pub ones-word : (l : List Bool) → ones (word l) ≡ trues l
+unfolding word trues ones
+ones-word [] = refl
+ones-word (b ∷ l) = rw (ones-step (flag b + 2 * word l), low, high, ones-word l)
+
+bit-flag : (l : List Bool) (i : ℕ) → word l / 2 ^ i % 2 ≡ flag (getD l i false)
+unfolding word
+bit-flag [] i = rw (div-eq-of-lt (pow-pos i))
+bit-flag (b ∷ l) zero = omega (arith, flag-le b)
+bit-flag (b ∷ l) (suc i) = rw (pow-suc 2 i, mul-comm (2 ^ i) 2, ← div-div-eq-div-mul, high b, bit-flag l i)
+
+-- bit i of a word is flag i
+pub word-bit : (l : List Bool) (i : ℕ) → bit (word l) i ≡ getD l i false
+unfolding bit
+word-bit l i = rw (bit-flag l i) (flag-one (getD l i false))
+
+word-append : (a b : List Bool) → word (a ++ b) ≡ word a + 2 ^ length a * word b
+unfolding word
+word-append [] b = omega arith
+word-append (x ∷ a) b = rw (word-append a b, pow-suc 2 (length a), mul-comm (2 ^ length a) 2, mul-assoc) (omega arith)
+
+word-lt : (l : List Bool) → word l < 2 ^ length l
+unfolding word
+word-lt [] = omega arith
+word-lt (b ∷ l) = rw (pow-suc 2 (length l)) (omega (arith, word-lt l, flag-le b))
+
+pub tab-word-lt : (i : ℕ) (f : ℕ → Bool) → word (tab i f) < 2 ^ i
+tab-word-lt i f = rw (tab-length i f) at (word-lt (tab i f))
+
+-- one more bit, at its place
+pub tab-word-more : (i : ℕ) (f : ℕ → Bool) → word (tab (i + 1) f) ≡ word (tab i f) + 2 ^ i * flag (f i)
+unfolding word
+tab-word-more i f = rw (add-one i, tab-suc, word-append, tab-length i f, add-zero (flag (f i)))
+
+pub tab-bit : (n : ℕ) (f : ℕ → Bool) (i : ℕ) → i < n → bit (word (tab n f)) i ≡ f i
+tab-bit n f i h = rw (word-bit (tab n f) i) (tab-at n f i false h)
+
+pub or-bit : (w i : ℕ) → w < 2 ^ i → i < 16 → bitOr w (1 * 2 ^ i % 2 ^ 16) ≡ w + 2 ^ i
+or-bit w i h l = rw (shl-exact {a = 1} 1 i 16 (omega arith) (omega arith), or-shifted-r 1 i w h) (omega arith)
+
+pub bit-zero : (i : ℕ) → bit 0 i ≡ false
+unfolding word
+bit-zero i = word-bit [] i

@@ -1,0 +1,26 @@
+// Lists, words and bytes: what several crates need and none of them owns.
+
+ghost use mathlib.Core.Path.{_≡_};
+ghost use Prim.Native.Nat.{_<_};
+ghost use Rattle.seq.specs.Places.{at};
+ghost use Rattle.seq.specs.Bytes.{bigAt};
+
+fn wide(x: u8) -> u16
+    ensures { λ r. ⌜ (r ≡ x) × (r < 256) ⌝ }
+{
+    x as u16
+}
+
+// The byte at a place, 0 past the end.
+pub fn byte(s: &[u8], p: usize) -> u16
+    ensures { λ r. ⌜ (r ≡ at (now (s .entry)) p) × (r < 256) ⌝ }
+{
+    if p < s.len() { wide(s[p]) } else { 0 }
+}
+
+// The number of a part's first two bytes, the high one first.
+pub fn big(s: &[u8]) -> u16
+    ensures { λ r. ⌜ r ≡ bigAt (now (s .entry)) 0 ⌝ }
+{
+    byte(s, 0) * 256 + byte(s, 1)
+}
