@@ -32,7 +32,7 @@ age-turn C T w (suc l) p =
 
 -- a row that keeps a number and is released only where its age is T or more
 pub number-turn : (C T w n : ℕ) (b : Bool) → (b ≡ true → T ≤ ageOf T n) → Turn C T (ageOf T n) w (ageOf T (number b n)) (cond b C w)
-number-turn C T w n true q = comes (q refl) refl (omega arith)
+number-turn C T w n true q = comes (omega (arith, q refl)) refl (omega arith)
 number-turn C T w n false q =
     elim (ℕ-discrete n 0) [
       | yes e ↦ rw (eq-eqb n 0 e) (stays (omega arith) refl (omega arith))

@@ -12,9 +12,14 @@ use borrow.Author.Tests.{eq-eqb, ne-eqb}
 use Rattle.law.specs.Sums.{sum, ceil}
 use Rattle.law.specs.Work.{W, Periods, Held}
 use Rattle.law.specs.Level.{backlog}
-use Rattle.law.specs.Forced.{Forced, LateAt, ForcedRun, Exact}
+use Rattle.law.specs.Forced.{Forced, LateAt, ForcedRun}
 use Rattle.law.proofs.Sums.{ceil-is, ceil-zero, ceil-due, ceil-rest, sum-eq, sum-add, sum-zero, find}
 use Rattle.law.proofs.Age.{mod-next, mod-turn}
+
+-- what each slot keeps while row i has always had work left and nobody was late: each of the l slots was given or served
+pub record Exact (C T : ℕ → ℕ) (i g l : ℕ) (w : ℕ → ℕ) : Type 0 where
+  pub sums : l + backlog w i + (g - l) ≡ g + W C T (suc i) l
+  pub works : (1 ≤ w i) ⊎ (l ≡ 0)
 
 module _ (C T : ℕ → ℕ) (i g D : ℕ) (one : 1 ≤ C i) (periods : Periods T (suc i)) (due : D ≤ T i) where
   pub exact-start : (w : ℕ → ℕ) → ((h : ℕ) → h < suc i → w h ≡ 0) → Exact C T i g 0 w

@@ -64,7 +64,7 @@ module _ (C T : ℕ → ℕ) (i D k : ℕ) (periods : Periods T (suc i)) (short 
           m = bumps C T (suc i) a w a' (x .mid) (x .turns) (y .m);
           win =
               win-slot C T i k (held .t) periods (omega (arith, held .due)) (held .fix) (y .l) (x .start) c' (y .m) a w a' (x .mid) w'
-              (y .win) (x .turns) (x .less) b (x .took b);
+              (y .win) (x .turns) (x .less) b (omega (arith, x .took b));
         }
 
   -- row i with work left has not reached its deadline
@@ -88,11 +88,13 @@ module _ (C T : ℕ → ℕ) (i D k : ℕ) (periods : Periods T (suc i)) (short 
         record {
           mid = m x;
           start = s x;
-          turns = λ h r. since-turn (rel h) (T h) (λ y y'. z .apart h y y' r) (C h) (w x h) (m x h) x (z .comes x h q r);
+          turns =
+              λ h r.
+              since-turn (rel h) (T h) (λ y y' d d' o. omega (arith, z .apart h y y' r d d' o)) (C h) (w x h) (m x h) x (z .comes x h q r);
           less = λ h r. z .less x h q r;
           anew = z .anew x q;
           goes-on = z .goes-on x q;
-          took = z .took x q;
+          took = λ b. omega (arith, z .took x q b);
         }
 
     run-inv : (x : ℕ) → x ≤ L → Inv C T i k (held .t) (ages x) (w x) (c x)
@@ -108,7 +110,7 @@ module _ (C T : ℕ → ℕ) (i D k : ℕ) (periods : Periods T (suc i)) (short 
           | yes b ↦
               (let v = keep (ages x) (w x) (c x) (ages (suc x)) (u x) (c (suc x)) (run-slot x q) (run-inv x (omega arith)) in
               let n : since (rel i) (T i) (suc x) ≡ D =
-              rw e at (since-is (rel i) (T i) (λ y y'. z .apart i y y' (omega arith)) y D d (omega (arith, held .pos, held .due)) short) in
+              rw e at (since-is (rel i) (T i) (λ y y' d d' o. omega (arith, z .apart i y y' (omega arith) d d' o)) y D d (omega (arith, held .pos, held .due)) short) in
               absurd (omega (arith, on-time (ages (suc x)) (u x) (c (suc x)) v b)))
           | no b ↦ omega arith
         ]

@@ -6,3 +6,5 @@ pub mod Age
 pub mod Level
 pub mod Judge
 pub mod Forced
+pub mod Laws
+pub mod Vectors

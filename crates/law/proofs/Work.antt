@@ -2,7 +2,7 @@
 use mathlib.Core.Path.{_≡_, refl}
 use mathlib.Core.Logic.{_↔_, _⊎_, inl, inr}
 use mathlib.Core.Bool.{Bool, true, false, not, cond}
-use Prim.Native.Nat.{ℕ, zero, suc, _+_, _*_, _%_, _≤_, _<_}
+use Prim.Native.Nat.{ℕ, zero, suc, _+_, _*_, _-_, _%_, _≤_, _<_}
 use native.Mathlib.Nat.{mul-le-mul-left}
 use native.Mathlib.Decide.{decLe, decLt, ℕ-discrete}
 use native.Mathlib.Omega.{arith}
@@ -65,9 +65,9 @@ module _ (C T : ℕ → ℕ) (i D k : ℕ) where
   misses x = not (settles C T i k (suc x))
 
   -- where it ends within D it has found one
-  pub least-settles : least C T i D k ≤ D → least C T i D k ≡ C i + k + W C T i (least C T i D k)
+  pub least-is : least C T i D k ≤ D → least C T i D k ≡ C i + k + W C T i (least C T i D k)
   unfolding least
-  least-settles q = go (settles C T i k (suc (lead D misses))) refl
+  least-is q = go (settles C T i k (suc (lead D misses))) refl
     where
       go : (b : Bool) → settles C T i k (suc (lead D misses)) ≡ b
           → suc (lead D misses) ≡ C i + k + W C T i (suc (lead D misses))
@@ -88,11 +88,12 @@ module _ (C T : ℕ → ℕ) (i D k : ℕ) where
   unfolding least
   least-pos = omega arith
 
-  pub holds-held : holds C T i D k ≡ true → Held C T i D k
+  pub least-due : holds C T i D k ≡ true → least C T i D k ≤ D
   unfolding holds
-  holds-held e =
-      let q : least C T i D k ≤ D = leb-true _ _ e in
-      record { t = least C T i D k; pos = least-pos; due = q; fix = least-settles q }
+  least-due e = leb-true _ _ e
+
+  pub holds-held : holds C T i D k ≡ true → Held C T i D k
+  holds-held e = record { t = least C T i D k; pos = least-pos; due = least-due e; fix = least-is (least-due e) }
 
   pub held-holds : Held C T i D k → holds C T i D k ≡ true
   unfolding holds
@@ -152,3 +153,11 @@ module _ (C T : ℕ → ℕ) (i D : ℕ) where
   pub allowance-small : C i ≤ D → C i + allowance C T i D ≤ D
   allowance-small q =
       elim allowance-is [ inl z ↦ omega arith | inr e ↦ held-small (allowance C T i D) (holds-held C T i D (allowance C T i D) e) ]
+
+-- the first row's: nothing is before it
+pub allowance-first : (C T : ℕ → ℕ) (D : ℕ) → 1 ≤ C 0 → C 0 ≤ D → C 0 + allowance C T 0 D ≡ D
+unfolding sum
+allowance-first C T D one q =
+    let k : ℕ = D - C 0 in
+    let x : Held C T 0 D k = record { t = D; pos = omega arith; due = omega arith; fix = omega arith } in
+    omega (arith, allowance-most C T 0 D k (held-holds C T 0 D k x), allowance-small C T 0 D q)

@@ -1,12 +1,9 @@
 -- Runs that show the allowance is not too small: all rows are released in slot 0 and then in each slot before which a multiple of their
 -- period were run, the first g slots are given away, and then the first row with work left is served. Only the rows up to i matter.
 use mathlib.Core.Path.{_≡_}
-use mathlib.Core.Logic.{_⊎_}
 use mathlib.Core.Bool.{cond}
-use Prim.Native.Nat.{ℕ, suc, _+_, _-_, _%_, _≤_, _<_}
+use Prim.Native.Nat.{ℕ, suc, _%_, _≤_, _<_}
 use lib.Dec.{eqb}
-use Rattle.law.specs.Sums.{sum}
-use Rattle.law.specs.Work.{W}
 use Rattle.law.specs.Level.{backlog}
 
 -- slot l: w is the work left before it, u after its use
@@ -29,8 +26,3 @@ pub record ForcedRun (C T D : ℕ → ℕ) (i g L : ℕ) (w u : ℕ → ℕ → 
   pub nothing : (h : ℕ) → h < suc i → w 0 h ≡ 0
   pub slots : (x : ℕ) → x < L → Forced C T i g x (w x) (u x)
   pub keeps : (x h : ℕ) → x < L → h < suc i → (LateAt T D (u x) x h → ⊥) → w (suc x) h ≡ u x h
-
--- what each slot keeps while row i has always had work left and nobody was late: each of the l slots was given or served
-pub record Exact (C T : ℕ → ℕ) (i g l : ℕ) (w : ℕ → ℕ) : Type 0 where
-  pub sums : l + backlog w i + (g - l) ≡ g + W C T (suc i) l
-  pub works : (1 ≤ w i) ⊎ (l ≡ 0)

@@ -6,3 +6,4 @@ pub mod Level
 pub mod Age
 pub mod Judge
 pub mod Forced
+pub mod Laws
