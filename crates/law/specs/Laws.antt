@@ -67,10 +67,14 @@ CornersDo =
     → (k t : ℕ) → t ≤ D → C i + k + W C T i t ≤ t
     → (x : ℕ) × (t ≤ x) × (x ≤ D) × (C i + k + W C T i x ≤ x) × ((x ≡ D) ⊎ ((h : ℕ) × (h < i) × (x % T h ≡ 0)))
 
--- The row law. Row i holds k, and its deadline is within its period, so that one instance of it at most counts in a window. The
--- counter that it sees is set to k at most, and only where no row up to i has work left. Releases of a row are at least its period
--- apart. Each slot in which work of these rows remains served one of them or was charged to the counter. Work may be dropped. Then no
--- instance of row i has work left when it is judged. Of the other rows nothing is asked: they may be late.
+-- The row law. Row i holds k, and its deadline is within its period. The counter that it sees is set to k at most, and only where no
+-- row up to i has work left. Releases of a row are at least its period apart. Each slot in which work of these rows remains served one
+-- of them or was charged to the counter. Work may be dropped. Then no instance of row i has work left when it is judged. Of the other
+-- rows nothing is asked: they may be late, and they need not hold anything.
+
+-- an instance is judged before the next of its row can come, so that one at most counts in a window
+abbrev pub WithinPeriod : (T : ℕ → ℕ) (i D : ℕ) → Type 0
+WithinPeriod T i D = D ≤ T i
 
 -- One slot: what it keeps (Inv, for the t at which row i settles), and what that gives.
 pub record RowSteps (C T : ℕ → ℕ) (i D k t : ℕ) : Type 0 where
@@ -82,13 +86,13 @@ pub record RowSteps (C T : ℕ → ℕ) (i D k t : ℕ) : Type 0 where
 
 abbrev pub RowStep : Type 0
 RowStep =
-    (C T : ℕ → ℕ) (i D k : ℕ) → Periods T (suc i) → D ≤ T i
+    (C T : ℕ → ℕ) (i D k : ℕ) → Periods T (suc i) → WithinPeriod T i D
     → (held : Held C T i D k) → RowSteps C T i D k (held .t)
 
 -- A run of L slots: the instance released in slot y is judged at the end of slot x = y + D - 1.
 abbrev pub RowLaw : Type 0
 RowLaw =
-    (C T : ℕ → ℕ) (i D k : ℕ) → Periods T (suc i) → D ≤ T i → holds C T i D k ≡ true
+    (C T : ℕ → ℕ) (i D k : ℕ) → Periods T (suc i) → WithinPeriod T i D → holds C T i D k ≡ true
     → (L : ℕ) (rel : ℕ → ℕ → Bool) (w m u : ℕ → ℕ → ℕ) (c s : ℕ → ℕ) → Run C T i k L rel w m u c s
     → (x y : ℕ) → x < L → rel i y ≡ true → y + D ≡ suc x → u x i ≡ 0
 
@@ -96,7 +100,7 @@ RowLaw =
 -- deadline.
 abbrev pub RowPromise : Type 0
 RowPromise =
-    (C T : ℕ → ℕ) (i D k : ℕ) → Periods T (suc i) → D ≤ T i → holds C T i D k ≡ true
+    (C T : ℕ → ℕ) (i D k : ℕ) → Periods T (suc i) → WithinPeriod T i D → holds C T i D k ≡ true
     → (L : ℕ) (rel : ℕ → ℕ → Bool) (w m u : ℕ → ℕ → ℕ) (c s : ℕ → ℕ) → Run C T i k L rel w m u c s
     → (f v : ℕ → ℕ) → v 0 ≡ 0
     → ((x : ℕ) → x < L
