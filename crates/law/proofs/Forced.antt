@@ -4,7 +4,7 @@ use mathlib.Core.Path.{_≡_, refl}
 use mathlib.Core.Logic.{_⊎_, inl, inr}
 use mathlib.Core.Bool.{cond}
 use Prim.Native.Nat.{ℕ, zero, suc, _+_, _*_, _-_, _%_, _≤_, _<_}
-use native.Mathlib.Nat.{zero-mod, mod-lt, mod-eq-of-lt}
+use native.Mathlib.Nat.{zero-mod, mod-eq-of-lt}
 use native.Mathlib.Decide.{decLe, decLt, ℕ-discrete}
 use native.Mathlib.Omega.{arith}
 use lib.Dec.{eqb}
@@ -14,7 +14,7 @@ use Rattle.law.specs.Work.{W, Periods, Held}
 use Rattle.law.specs.Level.{backlog}
 use Rattle.law.specs.Forced.{Forced, LateAt, ForcedRun}
 use Rattle.law.proofs.Sums.{ceil-is, ceil-zero, ceil-due, ceil-rest, sum-eq, sum-add, sum-zero, find}
-use Rattle.law.proofs.Age.{mod-next, mod-turn}
+use Rattle.law.proofs.Age.{mod-next}
 
 -- what each slot keeps while row i has always had work left and nobody was late: each of the l slots was given or served
 pub record Exact (C T : ℕ → ℕ) (i g l : ℕ) (w : ℕ → ℕ) : Type 0 where
@@ -86,7 +86,7 @@ module _ (C T : ℕ → ℕ) (i g D : ℕ) (one : 1 ≤ C i) (periods : Periods 
               omega (arith, k .sums, mid-sum, x .takes (omega arith) mid-pos) in
               elim (decLe 1 (u i)) [
                 | yes y ↦ inr record { sums = s; works = inl y }
-                | no y ↦ inl (ends (x .first (omega arith) mid-pos (omega arith)) (omega arith) s)
+                | no y ↦ inl (ends (omega (arith, x .first (omega arith) mid-pos (omega arith))) (omega arith) s)
               ])
         ]
 
@@ -117,8 +117,8 @@ module _ (C T D : ℕ → ℕ) (i g : ℕ) (one : 1 ≤ C i) (some : (h : ℕ) �
   late-or : (x h : ℕ) → LateAt T D (u x) x h ⊎ (LateAt T D (u x) x h → ⊥)
   late-or x h =
       elim (ℕ-discrete (suc (x % T h)) (D h)) [
-        | no e ↦ inr (λ y. e (y .0))
-        | yes e ↦ elim (decLe 1 (u x h)) [ yes q ↦ inl (e, q) | no q ↦ inr (λ y. q (y .1)) ]
+        | no e ↦ inr (λ y. e (omega (arith, y .0)))
+        | yes e ↦ elim (decLe 1 (u x h)) [ yes q ↦ inl (omega arith, omega arith) | no q ↦ inr (λ y. q (y .1)) ]
       ]
 
   module _ (fine : (x : ℕ) → x < D i → (h : ℕ) → h < suc i → LateAt T D (u x) x h → ⊥) where
@@ -131,7 +131,7 @@ module _ (C T D : ℕ → ℕ) (i g : ℕ) (one : 1 ≤ C i) (some : (h : ℕ) �
         rw (z .keeps x h q r (fine x q h r))
         (clear-slot (C h) (T h) (D h) x (w x h) (z .slots x q .mid h) (u x h) (some h r) (short h r)
         (z .slots x q .comes h r) (z .slots x q .less h r)
-        (λ e. elim (decLe 1 (u x h)) [ yes y ↦ absurd (fine x q h r (e, y)) | no y ↦ omega arith ])
+        (λ e. elim (decLe 1 (u x h)) [ yes y ↦ absurd (fine x q h r (omega arith, omega arith)) | no y ↦ omega arith ])
         (clear x (omega arith) h r))
 
     exact : (x : ℕ) → x ≤ D i → Held C T i (D i) g ⊎ Exact C T i g x (w x)

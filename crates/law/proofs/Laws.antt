@@ -1,12 +1,11 @@
 -- Each statement of specs/Laws.antt holds. Assumes nothing.
-use mathlib.Core.Path.{_≡_, refl, _∙_}
+use mathlib.Core.Path.{_≡_, _∙_}
 use mathlib.Core.Logic.{_⊎_, inl, inr}
 use mathlib.Core.Bool.{Bool, true}
 use Prim.Native.Nat.{ℕ, zero, suc, _+_, _-_, _%_, _≤_, _<_}
 use native.Mathlib.Decide.{decLe, decLt}
 use native.Mathlib.Omega.{arith}
-use Rattle.law.specs.Work.{W, Periods, least, holds, Held, allowance}
-use Rattle.law.specs.Level.{Run}
+use Rattle.law.specs.Work.{W, Periods, Held, allowance}
 use Rattle.law.specs.Judge.{Link, Judged, late, fine, RowSlot}
 use Rattle.law.specs.Laws.{
   LeastSettles,

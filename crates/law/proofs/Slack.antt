@@ -7,15 +7,10 @@ use native.Mathlib.Decide.{decLe, decLt}
 use native.Mathlib.Numerals.{add-one}
 use native.Mathlib.Omega.{arith}
 use lib.Dec.{ltb}
-use borrow.Author.Tests.{lt-ltb, le-ltb, ltb-true}
-use Rattle.law.specs.Work.{W, Periods, holds, Held, largest, allowance}
+use borrow.Author.Tests.{lt-ltb, le-ltb}
+use Rattle.law.specs.Work.{W, Periods, holds, Held, allowance}
 use Rattle.law.specs.Slack.{slack}
 use Rattle.law.proofs.Work.{room-held, holds-held, held-holds, allowance-most, allowance-is}
-
--- one t more, as a loop counts
-pub slack-next : (C T : ℕ → ℕ) (i d : ℕ) → slack C T i (d + 1) ≡ max (slack C T i d) (d + 1 + 1 - (C i + W C T i (d + 1)))
-unfolding slack
-slack-next C T i d = rw (add-one d, add-one (suc d))
 
 -- some t has room for k exactly where k is below the slack
 pub record Room (C T : ℕ → ℕ) (i D k : ℕ) : Type 0 where
@@ -40,6 +35,11 @@ room-slack C T i (suc d) k t one q r =
       | yes s ↦ omega (arith, room-slack C T i d k t one s r)
       | no s ↦ (let e : t ≡ suc d = omega arith in omega (arith, ap (λ (x : ℕ). W C T i x) e))
     ]
+
+-- one t more, as a loop counts
+pub slack-next : (C T : ℕ → ℕ) (i d : ℕ) → slack C T i (d + 1) ≡ max (slack C T i d) (d + 1 + 1 - (C i + W C T i (d + 1)))
+unfolding slack
+slack-next C T i d = rw (add-one d, add-one (suc d))
 
 pub slack-small : (C T : ℕ → ℕ) (i D : ℕ) → 1 ≤ C i → slack C T i D ≤ D
 unfolding slack

@@ -1,12 +1,14 @@
 -- Tables of the documents, worked out by the definitions. Rows as C, T, D.
 use mathlib.Core.Path.{_≡_, refl}
 use mathlib.Core.List.{List, [], _∷_}
-use mathlib.Core.Bool.{true, false}
-use Prim.Native.Nat.{ℕ, suc, _+_, _-_}
+use mathlib.Core.Bool.{Bool, true, false}
+use Prim.Native.Nat.{ℕ, _%_}
 use native.Mathlib.Omega.{arith}
-use Rattle.seq.specs.Places.{at, tab, lead}
+use lib.Dec.{eqb}
+use Rattle.seq.specs.Places.{flag, at, tab, lead}
 use Rattle.law.specs.Sums.{sum, ceil}
 use Rattle.law.specs.Work.{W, least, holds, largest, allowance}
+use Rattle.law.specs.Judge.{endsLate, lateCount}
 use Rattle.law.proofs.Work.{allowance-first}
 
 -- the allowances of the first n rows
@@ -65,3 +67,19 @@ source-least = refl
 source-work : W (at (1 ∷ 2 ∷ 1 ∷ [])) (at (3 ∷ 5 ∷ 15 ∷ [])) 3 15 ≡ 12
 unfolding sum ceil
 source-work = refl
+
+-- a row (2,4,3) that gets slots 0, 3, 4 and 6 of eight: its first instance is late, its second is not. The late after 2, 3 and 8 slots,
+-- and the slots in which a late instance ends
+abbrev fourth : ℕ → Bool
+fourth x = eqb (x % 4) 0
+
+abbrev hits : ℕ → ℕ
+hits = at (1 ∷ 0 ∷ 0 ∷ 1 ∷ 1 ∷ 0 ∷ 1 ∷ 0 ∷ [])
+
+late-counted : lateCount 2 3 fourth hits 2 ∷ lateCount 2 3 fourth hits 3 ∷ lateCount 2 3 fourth hits 8 ∷ [] ≡ 0 ∷ 1 ∷ 1 ∷ []
+unfolding sum
+late-counted = refl
+
+late-flagged : tab 8 (λ x. flag (endsLate 2 3 fourth hits x)) ≡ 0 ∷ 0 ∷ 1 ∷ 0 ∷ 0 ∷ 0 ∷ 0 ∷ 0 ∷ []
+unfolding sum tab
+late-flagged = refl

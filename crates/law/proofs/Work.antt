@@ -6,10 +6,9 @@ use Prim.Native.Nat.{ℕ, zero, suc, _+_, _*_, _-_, _%_, _≤_, _<_}
 use native.Mathlib.Nat.{mul-le-mul-left}
 use native.Mathlib.Decide.{decLe, decLt, ℕ-discrete}
 use native.Mathlib.Omega.{arith}
-use lib.Dec.{eqb, leb}
-use borrow.Author.Tests.{eq-eqb, eqb-true, ne-eqb, le-leb, lt-leb, leb-true, leb-false, not-false}
+use borrow.Author.Tests.{eq-eqb, eqb-true, leb-true, leb-false}
 use Rattle.seq.specs.Places.{lead}
-use Rattle.seq.proofs.Places.{lead-most, lead-miss, lead-hit}
+use Rattle.seq.proofs.Places.{lead-miss, lead-hit}
 use Rattle.law.specs.Sums.{sum, ceil}
 use Rattle.law.specs.Work.{W, Periods, settles, least, holds, Held, largest, allowance}
 use Rattle.law.proofs.Sums.{ceil-mono, ceil-rest, sum-le}
@@ -90,39 +89,23 @@ module _ (C T : ℕ → ℕ) (i D k : ℕ) where
 
   pub least-due : holds C T i D k ≡ true → least C T i D k ≤ D
   unfolding holds
-  least-due e = leb-true _ _ e
+  least-due e = omega (arith, leb-true)
 
   pub holds-held : holds C T i D k ≡ true → Held C T i D k
   holds-held e = record { t = least C T i D k; pos = least-pos; due = least-due e; fix = least-is (least-due e) }
 
   pub held-holds : Held C T i D k → holds C T i D k ≡ true
   unfolding holds
-  held-holds x = le-leb (least C T i D k) D (omega (arith, least-first (x .t) (x .pos) (x .due) (x .fix), x .due))
+  held-holds x = go (holds C T i D k) refl
+    where
+      go : (b : Bool) → holds C T i D k ≡ b → b ≡ true
+      go true e = refl
+      go false e = absurd (omega (arith, leb-false, least-first (x .t) (x .pos) (x .due) (x .fix), x .due))
 
   pub held-iff : (holds C T i D k ≡ true) ↔ Held C T i D k
   held-iff = (holds-held, held-holds)
 
--- the largest of 0 .. n that has p, where one has
-pub largest-most : (p : ℕ → Bool) (n : ℕ) → largest p n ≤ n
-unfolding largest
-largest-most p zero = omega arith
-largest-most p (suc n) = go (p (suc n)) (largest-most p n)
-  where
-    go : (b : Bool) {x : ℕ} → x ≤ n → cond b (suc n) x ≤ suc n
-    go true q = omega arith
-    go false q = omega arith
-
--- it is 0 or has p
-pub largest-is : (p : ℕ → Bool) (n : ℕ) → (largest p n ≡ 0) ⊎ (p (largest p n) ≡ true)
-unfolding largest
-largest-is p zero = inl refl
-largest-is p (suc n) = go (p (suc n)) refl (largest-is p n)
-  where
-    go : (b : Bool) {x : ℕ} → p (suc n) ≡ b → (x ≡ 0) ⊎ (p x ≡ true) → (cond b (suc n) x ≡ 0) ⊎ (p (cond b (suc n) x) ≡ true)
-    go true e h = inr e
-    go false e h = h
-
--- none that has p is larger
+-- of 0 .. n none that has p is larger than the largest
 pub largest-above : (p : ℕ → Bool) (n j : ℕ) → j ≤ n → p j ≡ true → j ≤ largest p n
 unfolding largest
 largest-above p zero j q e = omega arith
@@ -135,6 +118,16 @@ largest-above p (suc n) j q e =
     go : (b : Bool) {x : ℕ} → j ≤ x → j ≤ cond b (suc n) x
     go true h = omega arith
     go false h = h
+
+-- it is 0 or has p
+pub largest-is : (p : ℕ → Bool) (n : ℕ) → (largest p n ≡ 0) ⊎ (p (largest p n) ≡ true)
+unfolding largest
+largest-is p zero = inl refl
+largest-is p (suc n) = go (p (suc n)) refl (largest-is p n)
+  where
+    go : (b : Bool) {x : ℕ} → p (suc n) ≡ b → (x ≡ 0) ⊎ (p x ≡ true) → (cond b (suc n) x ≡ 0) ⊎ (p (cond b (suc n) x) ≡ true)
+    go true e h = inr e
+    go false e h = h
 
 -- what is held is at most the allowance, and the allowance is held where 0 is
 module _ (C T : ℕ → ℕ) (i D : ℕ) where
