@@ -1,16 +1,18 @@
 -- The link between a row's state and its history: each slot keeps it, and it gives the late count and what each instance got.
 use mathlib.Core.Path.{_≡_, refl, ap, sym, _∙_}
 use mathlib.Core.Bool.{Bool, true, false, _&&_, cond, true≢false}
-use Prim.Native.Nat.{ℕ, zero, suc, _+_, _-_, _≤_, _<_, min}
+use Prim.Native.Nat.{ℕ, zero, suc, _+_, _-_, _%_, _≤_, _<_, min}
 use native.Mathlib.Decide.{decLe, decLt}
 use native.Mathlib.Nat.{zero-min}
 use native.Mathlib.Omega.{arith}
-use lib.Dec.{ltb, leb}
-use borrow.Author.Tests.{lt-ltb, le-ltb, le-leb, lt-leb}
+use lib.Dec.{eqb, ltb, leb}
+use borrow.Author.Tests.{eq-eqb, eqb-true, lt-ltb, le-ltb, le-leb, lt-leb}
 use Rattle.seq.specs.Places.{flag}
 use Rattle.law.specs.Sums.{sum}
-use Rattle.law.specs.Judge.{got, tooFew, endsLate, lateCount, Phase, runs, none, Link, Judged, late, fine, RowSlot}
+use Rattle.law.specs.Age.{Apart, released, number}
+use Rattle.law.specs.Judge.{got, tooFew, endsLate, lateCount, Phase, runs, none, Link, Judged, late, fine, RowSlot, RowRun}
 use Rattle.law.proofs.Sums.{term-le}
+use Rattle.law.proofs.Age.{released-apart, number-from, number-is, number-periodic}
 
 -- the late of L slots are those among the release slots judged by then
 sum-due : (g : ℕ → Bool) (D L n : ℕ)
@@ -43,8 +45,7 @@ count-next g D L v v' e p q =
       | no d ↦ (let n : suc (suc L) - D ≡ suc L - D = omega arith in rw n (omega (arith, q (omega arith))))
     ]
 
-module _ (C D : ℕ) (rel : ℕ → Bool) (f : ℕ → ℕ) (one : 1 ≤ D)
-    (gap : (x y : ℕ) → rel x ≡ true → rel y ≡ true → x < y → x + D ≤ y) where
+module _ (C D : ℕ) (rel : ℕ → Bool) (f : ℕ → ℕ) (one : 1 ≤ D) (gap : Apart rel D) where
   mid-of : (L w u : ℕ) (b : Bool) → rel L ≡ b → u + f L ≡ cond b C w → Phase C D rel f L w → Mid C D rel f L u
   unfolding sum
   mid-of L w u true e q (runs x r p o a z y) = absurd (omega (arith, gap x L p e (omega arith)))
@@ -176,3 +177,44 @@ module _ (C D : ℕ) (rel : ℕ → Bool) (f : ℕ → ℕ) (one : 1 ≤ D)
   link-late L w v k =
       let n : min L (suc L - D) ≡ suc L - D = omega arith in
       k .count ∙ rw n at (sym (sum-due (λ x. tooFew C D rel f x) D L L))
+
+  -- along a run
+  pub link-run : (L : ℕ) (w u v : ℕ → ℕ) → RowRun C D rel f L w u v → (x : ℕ) → x ≤ L → Link C D rel f x (w x) (v x)
+  link-run L w u v z zero q = rw (z .nothing, z .none-late) link-start
+  link-run L w u v z (suc x) q =
+      link-slot x (w x) (v x) (w (suc x)) (v (suc x)) record { used = u x; use-eq = z .uses x q; judged = z .judges x q }
+      (link-run L w u v z x (omega arith))
+
+-- a judgement by a test that tells the slots in which an instance ends
+pub judged-by : (D : ℕ) (rel : ℕ → Bool) (L u v : ℕ) (ends : Bool)
+    → (ends ≡ true → (x : ℕ) × (x + D ≡ suc L) × (rel x ≡ true))
+    → ((x : ℕ) → x + D ≡ suc L → rel x ≡ true → ends ≡ true)
+    → Judged D rel L u v (cond (ends && ltb 0 u) 0 u) (v + flag (ends && ltb 0 u))
+judged-by D rel L u v true f g =
+    elim (decLt 0 u) [
+      | yes p ↦ (let y = f refl in rw (lt-ltb 0 u p) (late (y .0) (y .1) (y .2) p refl (omega arith)))
+      | no p ↦ rw (le-ltb 0 u (omega arith)) (fine (λ x e d. omega arith) refl (omega arith))
+    ]
+judged-by D rel L u v false f g = fine (λ x e d. absurd (true≢false (sym (g x e d)))) refl (omega arith)
+
+-- by the number that tells the age
+pub judged-number : (D : ℕ) (rel : ℕ → Bool) (L u v : ℕ) → 1 ≤ D → Apart rel D
+    → Judged D rel L u v (cond (eqb (number rel (suc L)) D && ltb 0 u) 0 u) (v + flag (eqb (number rel (suc L)) D && ltb 0 u))
+judged-number D rel L u v one apart =
+    judged-by D rel L u v (eqb (number rel (suc L)) D)
+    (λ e.
+    let n : number rel (suc L) ≡ D = eqb-true _ _ e in
+    let y = number-from rel (suc L) (omega arith) in (y .0, omega (arith, y .1), y .2))
+    (λ x e d. eq-eqb (number rel (suc L)) D (rw e at (number-is rel D apart x D d one (omega arith))))
+
+-- by the remainder, for the periodic pattern
+pub judged-periodic : (T D L u v : ℕ) → 1 ≤ D → D ≤ T
+    → Judged D (released T) L u v (cond (eqb (L % T) (D - 1) && ltb 0 u) 0 u) (v + flag (eqb (L % T) (D - 1) && ltb 0 u))
+judged-periodic T D L u v one short =
+    let n : number (released T) (suc L) ≡ suc (L % T) = number-periodic T L (omega arith) in
+    judged-by D (released T) L u v (eqb (L % T) (D - 1))
+    (λ e.
+    let y = number-from (released T) (suc L) (omega arith) in (y .0, omega (arith, y .1, eqb-true (L % T) (D - 1) e), y .2))
+    (λ x e d.
+    eq-eqb (L % T) (D - 1)
+    (omega (arith, rw e at (number-is (released T) D (released-apart T D short) x D d one (omega arith)))))

@@ -1,12 +1,13 @@
 -- Each statement of specs/Laws.antt holds. Assumes nothing.
-use mathlib.Core.Path.{_≡_, _∙_}
+use mathlib.Core.Path.{_≡_}
 use mathlib.Core.Logic.{_⊎_, inl, inr}
 use mathlib.Core.Bool.{Bool, true}
 use Prim.Native.Nat.{ℕ, zero, suc, _+_, _-_, _%_, _≤_, _<_}
 use native.Mathlib.Decide.{decLe, decLt}
 use native.Mathlib.Omega.{arith}
-use Rattle.law.specs.Work.{W, Periods, Held, allowance}
-use Rattle.law.specs.Judge.{Link, Judged, late, fine, RowSlot}
+use Rattle.law.specs.Work.{W, Periods, allowance}
+use Rattle.law.specs.Age.{Apart}
+use Rattle.law.specs.Judge.{Judged, late, fine}
 use Rattle.law.specs.Laws.{
   LeastSettles,
   HoldsIsHeld,
@@ -36,8 +37,9 @@ use Rattle.law.proofs.Work.{
   allowance-most,
   allowance-holds,
 }
+use Rattle.law.proofs.Age.{apart-less}
 use Rattle.law.proofs.Level.{rest, keep, drops, on-time, run-on-time}
-use Rattle.law.proofs.Judge.{link-start, link-slot, link-late, link-exact}
+use Rattle.law.proofs.Judge.{link-run, link-late, link-exact}
 use Rattle.law.proofs.Forced.{forced-late}
 
 pub least-settles : LeastSettles
@@ -108,46 +110,36 @@ pub row-law : RowLaw
 row-law C T i D k periods short e L rel w m u c s z =
     run-on-time C T i D k periods (omega arith) (holds-held C T i D k e) L rel w m u c s z
 
--- a row's slots one after the other
-module _ (C D : ℕ) (rel : ℕ → Bool) (f : ℕ → ℕ) (one : 1 ≤ D) (gap : (x y : ℕ) → rel x ≡ true → rel y ≡ true → x < y → x + D ≤ y)
-    (L : ℕ) (w v : ℕ → ℕ) (w0 : w 0 ≡ 0) (v0 : v 0 ≡ 0) (z : (x : ℕ) → x < L → RowSlot C D rel f x (w x) (v x) (w (suc x)) (v (suc x))) where
-  linked : (x : ℕ) → x ≤ L → Link C D rel f x (w x) (v x)
-  linked zero q = rw (w0, v0) (link-start C D rel f one gap)
-  linked (suc x) q = link-slot C D rel f one gap x (w x) (v x) (w (suc x)) (v (suc x)) (z x q) (linked x (omega arith))
-
 pub late-counts : LateCounts
-late-counts C D rel f one gap L w v w0 v0 z = link-late C D rel f one gap L (w L) (v L) (linked C D rel f one gap L w v w0 v0 z L (omega arith))
+late-counts C D rel f one gap L w u v z =
+    link-late C D rel f one gap L (w L) (v L) (link-run C D rel f one gap L w u v z L (omega arith))
 
 none-late : (D : ℕ) (rel : ℕ → Bool) (x u v w' v' : ℕ) → ((y : ℕ) → rel y ≡ true → y + D ≡ suc x → u ≡ 0) → Judged D rel x u v w' v' → v' ≡ v
 none-late D rel x u v w' v' g (late y e d o p q) = absurd (omega (arith, g y d e))
 none-late D rel x u v w' v' g (fine h p q) = q
 
 pub row-promise : RowPromise
-row-promise C T i D k periods short e L rel w m u c s z f v v0 r = (
-  none L (omega arith),
+row-promise C T i D k periods short e L rel w m u c s z f v r = (
+  zero-late L (omega arith),
   link-exact (C i) D (rel i) f one gap L (w L i)
-      (rw (none L (omega arith)) at
-      (linked (C i) D (rel i) f one gap L (λ x. w x i) v (z .nothing i (omega arith)) v0 (λ x q. r x q .0) L (omega arith))),
+      (rw (zero-late L (omega arith)) at (link-run (C i) D (rel i) f one gap L (λ x. w x i) (λ x. u x i) v r L (omega arith))),
 )
   where
-    held : Held C T i D k
-    held = holds-held C T i D k e
-
     one : 1 ≤ D
-    one = omega (arith, held .pos, held .due)
+    one = let x = holds-held C T i D k e in omega (arith, x .pos, x .due)
 
-    gap : (x y : ℕ) → rel i x ≡ true → rel i y ≡ true → x < y → x + D ≤ y
-    gap x y p d q = omega (arith, z .apart i x y (omega arith) p d q)
+    gap : Apart (rel i) D
+    gap = apart-less (rel i) (T i) D (omega arith) (z .apart i (omega arith))
 
-    none : (x : ℕ) → x ≤ L → v x ≡ 0
-    none zero q = v0
-    none (suc x) q =
+    zero-late : (x : ℕ) → x ≤ L → v x ≡ 0
+    zero-late zero q = r .none-late
+    zero-late (suc x) q =
         omega (
           arith,
-          none x (omega arith),
-          none-late D (rel i) x (r x q .0 .used) (v x) (w (suc x) i) (v (suc x))
-              (λ y d a. r x q .1 ∙ row-law C T i D k periods (omega arith) e L rel w m u c s z x y q d a)
-              (r x q .0 .judged),
+          zero-late x (omega arith),
+          none-late D (rel i) x (u x i) (v x) (w (suc x) i) (v (suc x))
+              (λ y d a. row-law C T i D k periods (omega arith) e L rel w m u c s z x y q d a)
+              (r .judges x q),
         )
 
 pub tight : Tight

@@ -4,13 +4,14 @@ use mathlib.Core.Bool.{Bool, true}
 use Prim.Native.Nat.{ℕ, zero, suc, _+_, _≤_, _<_}
 use native.Mathlib.Decide.{decLe}
 use native.Mathlib.Omega.{arith}
+use borrow.Author.Tests.{ne-eqb}
 use Rattle.law.specs.Work.{Periods, Held}
 use Rattle.law.specs.Window.{never}
 use Rattle.law.specs.Level.{backlog, Slot, Busy, Inv, Run}
-use Rattle.law.specs.Age.{since}
+use Rattle.law.specs.Age.{number, ageOf}
 use Rattle.law.proofs.Sums.{sum-le, sum-zero, term-le}
 use Rattle.law.proofs.Window.{bumps, win-slot, seen-age, seen-less}
-use Rattle.law.proofs.Age.{since-turn, since-is}
+use Rattle.law.proofs.Age.{apart-less, number-turn, number-is, number-due}
 
 module _ (C T : ℕ → ℕ) (i k t : ℕ) where
   -- no work left
@@ -81,16 +82,18 @@ module _ (C T : ℕ → ℕ) (i D k : ℕ) (periods : Periods T (suc i)) (short 
   -- a run of slots
   module _ (L : ℕ) (rel : ℕ → ℕ → Bool) (w m u : ℕ → ℕ → ℕ) (c s : ℕ → ℕ) (z : Run C T i k L rel w m u c s) where
     abbrev ages : ℕ → ℕ → ℕ
-    ages x h = since (rel h) (T h) x
+    ages x h = ageOf (T h) (number (rel h) x)
 
     run-slot : (x : ℕ) → x < L → Slot C T i k (ages x) (w x) (c x) (ages (suc x)) (u x) (c (suc x))
+    unfolding number
     run-slot x q =
         record {
           mid = m x;
           start = s x;
           turns =
               λ h r.
-              since-turn (rel h) (T h) (λ y y' d d' o. omega (arith, z .apart h y y' r d d' o)) (C h) (w x h) (m x h) x (z .comes x h q r);
+              number-turn (C h) (T h) (w x h) (m x h) (number (rel h) x) (rel h x) (number-due (rel h) (T h) (z .apart h r) x)
+              (z .comes x h q r);
           less = λ h r. z .less x h q r;
           anew = z .anew x q;
           goes-on = z .goes-on x q;
@@ -109,8 +112,9 @@ module _ (C T : ℕ → ℕ) (i D k : ℕ) (periods : Periods T (suc i)) (short 
         elim (decLe 1 (u x i)) [
           | yes b ↦
               (let v = keep (ages x) (w x) (c x) (ages (suc x)) (u x) (c (suc x)) (run-slot x q) (run-inv x (omega arith)) in
-              let n : since (rel i) (T i) (suc x) ≡ D =
-              rw e at (since-is (rel i) (T i) (λ y y' d d' o. omega (arith, z .apart i y y' (omega arith) d d' o)) y D d (omega (arith, held .pos, held .due)) short) in
-              absurd (omega (arith, on-time (ages (suc x)) (u x) (c (suc x)) v b)))
+              let n : number (rel i) (suc x) ≡ D =
+              rw e at (number-is (rel i) D (apart-less (rel i) (T i) D short (z .apart i (omega arith))) y D d (omega (arith, held .pos, held .due)) (omega arith)) in
+              let f = rw (n, ne-eqb D 0 (λ g. omega (arith, held .pos, held .due))) at (on-time (ages (suc x)) (u x) (c (suc x)) v b) in
+              absurd (omega (arith, f)))
           | no b ↦ omega arith
         ]

@@ -49,3 +49,10 @@ pub record RowSlot (C D : ℕ) (rel : ℕ → Bool) (f : ℕ → ℕ) (L w v w' 
   pub used : ℕ
   pub use-eq : used + f L ≡ cond (rel L) C w
   pub judged : Judged D rel L used v w' v'
+
+-- L slots of the row from nothing: w x is left and v x were late before slot x, u x is left before its judgement
+pub record RowRun (C D : ℕ) (rel : ℕ → Bool) (f : ℕ → ℕ) (L : ℕ) (w u v : ℕ → ℕ) : Type 0 where
+  pub nothing : w 0 ≡ 0
+  pub none-late : v 0 ≡ 0
+  pub uses : (x : ℕ) → x < L → u x + f x ≡ cond (rel x) C (w x)
+  pub judges : (x : ℕ) → x < L → Judged D rel x (u x) (v x) (w (suc x)) (v (suc x))

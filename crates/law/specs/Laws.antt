@@ -7,8 +7,9 @@ use mathlib.Core.Logic.{_↔_, _⊎_}
 use mathlib.Core.Bool.{Bool, true}
 use Prim.Native.Nat.{ℕ, suc, _+_, _%_, _≤_, _<_}
 use Rattle.law.specs.Work.{W, Periods, least, holds, Held, allowance}
+use Rattle.law.specs.Age.{Apart}
 use Rattle.law.specs.Level.{Slot, Inv, Run}
-use Rattle.law.specs.Judge.{got, lateCount, RowSlot}
+use Rattle.law.specs.Judge.{got, lateCount, RowRun}
 use Rattle.law.specs.Forced.{LateAt, ForcedRun}
 
 -- The test.
@@ -77,7 +78,7 @@ abbrev pub WithinPeriod : (T : ℕ → ℕ) (i D : ℕ) → Type 0
 WithinPeriod T i D = D ≤ T i
 
 -- One slot: what it keeps (Inv, for the t at which row i settles), and what that gives.
-pub record RowSteps (C T : ℕ → ℕ) (i D k t : ℕ) : Type 0 where
+pub record StepLaws (C T : ℕ → ℕ) (i D k t : ℕ) : Type 0 where
   pub rest : (a w : ℕ → ℕ) (c : ℕ) → ((h : ℕ) → h < suc i → w h ≡ 0) → Inv C T i k t a w c
   pub keep : (a w : ℕ → ℕ) (c : ℕ) (a' w' : ℕ → ℕ) (c' : ℕ)
       → Slot C T i k a w c a' w' c' → Inv C T i k t a w c → Inv C T i k t a' w' c'
@@ -87,7 +88,7 @@ pub record RowSteps (C T : ℕ → ℕ) (i D k t : ℕ) : Type 0 where
 abbrev pub RowStep : Type 0
 RowStep =
     (C T : ℕ → ℕ) (i D k : ℕ) → Periods T (suc i) → WithinPeriod T i D
-    → (held : Held C T i D k) → RowSteps C T i D k (held .t)
+    → (held : Held C T i D k) → StepLaws C T i D k (held .t)
 
 -- A run of L slots: the instance released in slot y is judged at the end of slot x = y + D - 1.
 abbrev pub RowLaw : Type 0
@@ -102,19 +103,15 @@ abbrev pub RowPromise : Type 0
 RowPromise =
     (C T : ℕ → ℕ) (i D k : ℕ) → Periods T (suc i) → WithinPeriod T i D → holds C T i D k ≡ true
     → (L : ℕ) (rel : ℕ → ℕ → Bool) (w m u : ℕ → ℕ → ℕ) (c s : ℕ → ℕ) → Run C T i k L rel w m u c s
-    → (f v : ℕ → ℕ) → v 0 ≡ 0
-    → ((x : ℕ) → x < L
-    → (z : RowSlot (C i) D (rel i) f x (w x i) (v x) (w (suc x) i) (v (suc x))) × (z .used ≡ u x i))
+    → (f v : ℕ → ℕ) → RowRun (C i) D (rel i) f L (λ x. w x i) (λ x. u x i) v
     → (v L ≡ 0) × ((y : ℕ) → rel i y ≡ true → y + D ≤ L → got f y D ≡ C i)
 
 -- Late counts. Releases of the row are at least D apart. Then the count that each slot's judgement keeps is the number of instances
 -- that the history shows to have got too few by their deadline, whatever the slots were used for.
 abbrev pub LateCounts : Type 0
 LateCounts =
-    (C D : ℕ) (rel : ℕ → Bool) (f : ℕ → ℕ) → 1 ≤ D
-    → ((x y : ℕ) → rel x ≡ true → rel y ≡ true → x < y → x + D ≤ y)
-    → (L : ℕ) (w v : ℕ → ℕ) → w 0 ≡ 0 → v 0 ≡ 0
-    → ((x : ℕ) → x < L → RowSlot C D rel f x (w x) (v x) (w (suc x)) (v (suc x)))
+    (C D : ℕ) (rel : ℕ → Bool) (f : ℕ → ℕ) → 1 ≤ D → Apart rel D
+    → (L : ℕ) (w u v : ℕ → ℕ) → RowRun C D rel f L w u v
     → v L ≡ lateCount C D rel f L
 
 -- The allowance is not too small: where more than it is given away at the start, a row up to i is late by row i's first deadline, and
@@ -122,7 +119,7 @@ LateCounts =
 abbrev pub Tight : Type 0
 Tight =
     (C T D : ℕ → ℕ) (i g : ℕ) → 1 ≤ C i
-    → ((h : ℕ) → h < suc i → 1 ≤ D h) → ((h : ℕ) → h < suc i → D h ≤ T h)
+    → ((h : ℕ) → h < suc i → 1 ≤ D h) → ((h : ℕ) → h < suc i → WithinPeriod T h (D h))
     → allowance C T i (D i) < g
     → (w u : ℕ → ℕ → ℕ) → ForcedRun C T D i g (D i) w u
     → (x : ℕ) × (h : ℕ) × (x < D i) × (h < suc i) × LateAt T D (u x) x h

@@ -1,9 +1,10 @@
 -- The rows up to i through one slot, and through a run of slots, as the row law sees them. The counter is whatever row i sees: its
 -- own, or one that all rows share.
 use mathlib.Core.Path.{_≡_}
-use mathlib.Core.Bool.{Bool, true, cond}
+use mathlib.Core.Bool.{Bool, cond}
 use Prim.Native.Nat.{ℕ, suc, _+_, _≤_, _<_}
 use Rattle.law.specs.Sums.{sum}
+use Rattle.law.specs.Age.{Apart}
 use Rattle.law.specs.Window.{Turns, Win}
 
 -- the work left of the rows up to i
@@ -38,7 +39,7 @@ Inv C T i k t a w c = 1 ≤ backlog w i → Busy C T i k t a w c
 -- the work left and c x the counter before it, s x the counter after the reload, m x the work left after the release, u x after the use.
 pub record Run (C T : ℕ → ℕ) (i k L : ℕ) (rel : ℕ → ℕ → Bool) (w m u : ℕ → ℕ → ℕ) (c s : ℕ → ℕ) : Type 0 where
   pub nothing : (h : ℕ) → h < suc i → w 0 h ≡ 0
-  pub apart : (h x y : ℕ) → h < suc i → rel h x ≡ true → rel h y ≡ true → x < y → x + T h ≤ y
+  pub apart : (h : ℕ) → h < suc i → Apart (rel h) (T h)
   pub comes : (x h : ℕ) → x < L → h < suc i → m x h ≤ cond (rel h x) (w x h + C h) (w x h)
   pub less : (x h : ℕ) → x < L → h < suc i → u x h ≤ m x h
   pub drops : (x h : ℕ) → x < L → h < suc i → w (suc x) h ≤ u x h
