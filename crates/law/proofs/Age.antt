@@ -57,6 +57,25 @@ number-from rel (suc l) p = go (rel l) refl (number-from rel l) p
           | no z ↦ (let y = f (omega arith) in rw (ne-eqb (number rel l) 0 z) (y .0, omega (arith, y .1), y .2))
         ]
 
+pub number-last : (rel : ℕ → Bool) (x l : ℕ) → rel x ≡ true → x < l → (1 ≤ number rel l) × (x + number rel l ≤ l)
+unfolding number
+number-last rel x zero d p = absurd (omega arith)
+number-last rel x (suc l) d p =
+    elim (decLt x l) [
+      | yes q ↦ go (rel l) (number-last rel x l d q)
+      | no q ↦ (let e : l ≡ x = omega arith in rw (e, d) (omega arith, omega arith))
+    ]
+  where
+    go : (b : Bool) → (1 ≤ number rel l) × (x + number rel l ≤ l) → (1 ≤ numberNext b (number rel l)) × (x + numberNext b (number rel l) ≤ suc l)
+    go true y = (omega arith, omega (arith, y .0, y .1))
+    go false y = rw (ne-eqb (number rel l) 0 (λ z. omega (arith, y .0))) (omega arith, omega (arith, y .1))
+
+-- releases only at the age T or more stand T apart
+pub number-apart : (rel : ℕ → Bool) (T : ℕ) → ((x : ℕ) → rel x ≡ true → T ≤ ageOf T (number rel x)) → Apart rel T
+number-apart rel T f x y a b q =
+    let n = number-last rel x y a q in
+    omega (arith, n .1, rw (ne-eqb (number rel y) 0 (λ z. omega (arith, n .0))) at (f y b))
+
 module _ (rel : ℕ → Bool) (T : ℕ) (apart : Apart rel T) where
   -- the age of the instance of slot y
   pub number-is : (y r : ℕ) → rel y ≡ true → 1 ≤ r → r ≤ T → number rel (y + r) ≡ r

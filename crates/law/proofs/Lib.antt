@@ -8,3 +8,4 @@ pub mod Judge
 pub mod Forced
 pub mod Laws
 pub mod Vectors
+pub mod Cases

@@ -1,16 +1,16 @@
--- Runs that show the allowance is not too small: all rows are released in slot 0 and then in each slot before which a multiple of their
--- period were run, the first g slots are given away, and then the first row with work left is served. Only the rows up to i matter.
+-- Runs that show the allowance is not too small: all rows are released in slot 0 and then periodically, the first g slots are given
+-- away, and then the first row with work left is served. Only the rows up to i matter.
 use mathlib.Core.Path.{_≡_}
 use mathlib.Core.Bool.{cond}
 use Prim.Native.Nat.{ℕ, suc, _%_, _≤_, _<_}
-use lib.Dec.{eqb}
+use Rattle.law.specs.Age.{released}
 use Rattle.law.specs.Level.{backlog}
 
 -- slot l: w is the work left before it, u after its use
 pub record Forced (C T : ℕ → ℕ) (i g l : ℕ) (w u : ℕ → ℕ) : Type 0 where
   -- after the release
   pub mid : ℕ → ℕ
-  pub comes : (h : ℕ) → h < suc i → mid h ≡ cond (eqb (l % T h) 0) (C h) (w h)
+  pub comes : (h : ℕ) → h < suc i → mid h ≡ cond (released (T h) l) (C h) (w h)
   pub less : (h : ℕ) → h < suc i → u h ≤ mid h
   pub gives : l < g → (h : ℕ) → h < suc i → u h ≡ mid h
   -- while row i has work left one of these rows is served, and row i ends only where none of them has work left

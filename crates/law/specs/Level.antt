@@ -39,10 +39,13 @@ Inv C T i k t a w c = 1 ≤ backlog w i → Busy C T i k t a w c
 -- the work left and c x the counter before it, s x the counter after the reload, m x the work left after the release, u x after the use.
 pub record Run (C T : ℕ → ℕ) (i k L : ℕ) (rel : ℕ → ℕ → Bool) (w m u : ℕ → ℕ → ℕ) (c s : ℕ → ℕ) : Type 0 where
   pub nothing : (h : ℕ) → h < suc i → w 0 h ≡ 0
+  -- releases are at least a period apart, and each brings C at most
   pub apart : (h : ℕ) → h < suc i → Apart (rel h) (T h)
   pub comes : (x h : ℕ) → x < L → h < suc i → m x h ≤ cond (rel h x) (w x h + C h) (w x h)
+  -- neither the use nor the judgement adds work
   pub less : (x h : ℕ) → x < L → h < suc i → u x h ≤ m x h
   pub drops : (x h : ℕ) → x < L → h < suc i → w (suc x) h ≤ u x h
+  -- reload and use, as in Slot
   pub anew : (x : ℕ) → x < L → backlog (w x) i ≡ 0 → s x ≤ k
   pub goes-on : (x : ℕ) → x < L → 1 ≤ backlog (w x) i → s x ≤ c x
   pub took : (x : ℕ) → x < L → 1 ≤ backlog (u x) i → suc (backlog (u x) i + c (suc x)) ≤ backlog (m x) i + s x
