@@ -30,7 +30,7 @@ flag-one : (b : Bool) → eqb (flag b) 1 ≡ b
 flag-one true = refl
 flag-one false = refl
 
--- the trues of ones of a word is the number of its flags
+-- the count of ones of a word is the number of its flags
 pub ones-word : (l : List Bool) → ones (word l) ≡ trues l
 unfolding word trues ones
 ones-word [] = refl
@@ -74,3 +74,8 @@ or-bit w i h l = rw (shl-exact {a = 1} 1 i 16 (omega arith) (omega arith), or-sh
 pub bit-zero : (i : ℕ) → bit 0 i ≡ false
 unfolding word
 bit-zero i = word-bit [] i
+
+pub tab-word-none : (n : ℕ) (f : ℕ → Bool) → ((i : ℕ) → f i ≡ false) → word (tab n f) ≡ 0
+unfolding word tab
+tab-word-none zero f e = refl
+tab-word-none (suc n) f e = rw (e 0, tab-word-none n (λ i. f (suc i)) (λ i. e (suc i)))
