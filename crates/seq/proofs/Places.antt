@@ -68,6 +68,21 @@ module _ {A : Type 0} where
   over-same (suc n) f [] e = refl
   over-same (suc n) f (x ∷ l) e = rw (e 0 x (omega arith), ← over-same n (λ i. f (suc i)) l (λ i y h. e (suc i) y (omega arith)))
 
+  -- two that agree on what stands there
+  pub over-alike : (d : A) (n : ℕ) (f g : ℕ → A → A) (l : List A) → ((i : ℕ) → i < n → f i (getD l i d) ≡ g i (getD l i d)) → over n f l ≡ over n g l
+  unfolding over
+  over-alike d zero f g l e = refl
+  over-alike d (suc n) f g [] e = refl
+  over-alike d (suc n) f g (x ∷ l) e = rw (e 0 (omega arith), over-alike d n (λ i. f (suc i)) (λ i. g (suc i)) l (λ i h. e (suc i) (omega arith)))
+
+  -- what f keeps, at each place
+  pub over-keeps : (d : A) (P : ℕ → A → Type 0) (n : ℕ) (f : ℕ → A → A) (l : List A) → ((i : ℕ) (x : A) → i < n → P i x → P i (f i x)) → (i : ℕ) → P i (getD l i d) → P i (getD (over n f l) i d)
+  unfolding over
+  over-keeps d P zero f l k i p = p
+  over-keeps d P (suc n) f [] k i p = p
+  over-keeps d P (suc n) f (x ∷ l) k zero p = k 0 x (omega arith) p
+  over-keeps d P (suc n) f (x ∷ l) k (suc i) p = over-keeps d (λ j. P (suc j)) n (λ j. f (suc j)) l (λ j y h. k (suc j) y (omega arith)) i p
+
   -- one place changes
   pub over-one : (d : A) (n : ℕ) (f : ℕ → A → A) (l : List A) (r : ℕ) (v : A) → r < n → v ≡ f r (getD l r d) → ((i : ℕ) (x : A) → (i ≡ r → ⊥) → f i x ≡ x) → set l r v ≡ over n f l
   unfolding over

@@ -6,7 +6,7 @@ use Prim.Native.Nat.{ℕ, zero, suc, _+_, _*_, _/_, _%_, _^_, _≤_, _<_}
 use native.Mathlib.Numerals.{add-one}
 use native.Mathlib.Omega.{arith}
 use native.Mathlib.Nat.{pow-suc, mul-comm, mul-assoc, add-zero, div-div-eq-div-mul, div-eq-of-lt}
-use lib.ListN.{length, getD}
+use lib.ListN.{length, getD, List·getD-eq-default}
 use lib.Bits.{bitOr, or-shifted-r}
 use lib.Pow.{pow-pos, shl-exact}
 use lib.Count.{ones, ones-step}
@@ -67,6 +67,9 @@ tab-word-more i f = rw (add-one i, tab-suc, word-append, tab-length i f, add-zer
 
 pub tab-bit : (n : ℕ) (f : ℕ → Bool) (i : ℕ) → i < n → bit (word (tab n f)) i ≡ f i
 tab-bit n f i h = rw (word-bit (tab n f) i) (tab-at n f i false h)
+
+pub tab-bit-past : (n : ℕ) (f : ℕ → Bool) (i : ℕ) → n ≤ i → bit (word (tab n f)) i ≡ false
+tab-bit-past n f i h = rw (word-bit (tab n f) i) (List·getD-eq-default (tab n f) false (rw (tab-length n f) h))
 
 pub or-bit : (w i : ℕ) → w < 2 ^ i → i < 16 → bitOr w (1 * 2 ^ i % 2 ^ 16) ≡ w + 2 ^ i
 or-bit w i h l = rw (shl-exact {a = 1} 1 i 16 (omega arith) (omega arith), or-shifted-r 1 i w h) (omega arith)
