@@ -75,13 +75,13 @@ module _ {A : Type 0} where
   over-alike d (suc n) f g [] e = refl
   over-alike d (suc n) f g (x ∷ l) e = rw (e 0 (omega arith), over-alike d n (λ i. f (suc i)) (λ i. g (suc i)) l (λ i h. e (suc i) (omega arith)))
 
-  -- what f keeps, at each place
-  pub over-keeps : (d : A) (P : ℕ → A → Type 0) (n : ℕ) (f : ℕ → A → A) (l : List A) → ((i : ℕ) (x : A) → i < n → P i x → P i (f i x)) → (i : ℕ) → P i (getD l i d) → P i (getD (over n f l) i d)
+  -- a place holds f of what stood there, or what stood there
+  pub over-either : (d : A) (n : ℕ) (f : ℕ → A → A) (l : List A) (i : ℕ) (P : A → Type 0) → P (f i (getD l i d)) → P (getD l i d) → P (getD (over n f l) i d)
   unfolding over
-  over-keeps d P zero f l k i p = p
-  over-keeps d P (suc n) f [] k i p = p
-  over-keeps d P (suc n) f (x ∷ l) k zero p = k 0 x (omega arith) p
-  over-keeps d P (suc n) f (x ∷ l) k (suc i) p = over-keeps d (λ j. P (suc j)) n (λ j. f (suc j)) l (λ j y h. k (suc j) y (omega arith)) i p
+  over-either d zero f l i P p q = q
+  over-either d (suc n) f [] i P p q = q
+  over-either d (suc n) f (x ∷ l) zero P p q = p
+  over-either d (suc n) f (x ∷ l) (suc i) P p q = over-either d n (λ j. f (suc j)) l i P p q
 
   -- one place changes
   pub over-one : (d : A) (n : ℕ) (f : ℕ → A → A) (l : List A) (r : ℕ) (v : A) → r < n → v ≡ f r (getD l r d) → ((i : ℕ) (x : A) → (i ≡ r → ⊥) → f i x ≡ x) → set l r v ≡ over n f l

@@ -16,7 +16,7 @@ use Rattle.seq.specs.Words.{word, trues, bit}
 use Rattle.seq.proofs.Places.{tab-length, tab-at, tab-suc}
 
 -- words
-flag-le : (b : Bool) → flag b ≤ 1
+pub flag-le : (b : Bool) → flag b ≤ 1
 flag-le true = omega arith
 flag-le false = omega arith
 
