@@ -4,9 +4,9 @@
 ghost use mathlib.Core.Path.{_≡_};
 ghost use mathlib.Core.Bool.{cond, _&&_};
 ghost use Prim.Native.Nat.{_+_, _-_, _*_, _^_, _%_, _<_};
-ghost use lib.Dec.{ltb, leb};
+ghost use lib.Dec.{ltb};
 ghost use lib.Count.{ones};
-ghost use Rattle.seq.specs.Places.{at, flag};
+ghost use Rattle.seq.specs.Places.{flag};
 ghost use Rattle.seq.specs.Words.{bit};
 ghost use Rattle.rows.specs.Rows.{rowsOf, idle, reloaded, dueWord, endWord, released, noneZero, charged, worked, lateWord, dropped, up, raised, total, bounded, inBounds, latesKept};
 
@@ -21,12 +21,12 @@ pub fn idle_rows(left: &[u16; 16], n: usize) -> usize
     ensures { λ r. ⌜ r ≡ idle n (now (left .entry)) ⌝ }
 {
     let m = rows(n);
-    let mut i = 0;
-    while i < m {
-        if left[i] != 0 {
-            return i;
+    let mut first = 0;
+    while first < m {
+        if left[first] != 0 {
+            return first;
         }
-        i += 1;
+        first += 1;
     }
     m
 }

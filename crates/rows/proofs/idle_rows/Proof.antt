@@ -9,10 +9,10 @@ use Rattle.rows.proofs.idle_rows.Statement.{statement}
 use Rattle.rows.proofs.idle_rows.Tie as tie
 
 abbrev Inv-loop : tie.InvT-loop
-Inv-loop left n m i₀ i = (i ≤ m) × (m ≡ rowsOf n) × (i ≤ idle n left)
+Inv-loop left n m first₀ first = (first ≤ m) × (m ≡ rowsOf n) × (first ≤ idle n left)
 
 abbrev μ-loop : tie.MeasureT-loop
-μ-loop left n m i₀ i = m - i
+μ-loop left n m first₀ first = m - first
 
 rows-requires : tie.Need-rows-requires Inv-loop μ-loop
 rows-requires c κs = search needs
@@ -30,10 +30,10 @@ returns : tie.Need-returns Inv-loop μ-loop
 returns c =
     let l = c .before .before .before .loop in
     let a = c .before .before .before .before .before .args in
-    sym (idle-hit (a .n) (a .left .now) (l .i) (omega arith) (c .if1 .taken) (l .inv .2))
+    sym (idle-hit (a .n) (a .left .now) (l .first) (omega arith) (c .if1 .taken) (l .inv .2))
 
-add-i : tie.Need-add-i Inv-loop μ-loop
-add-i c = search needs
+add-first : tie.Need-add-first Inv-loop μ-loop
+add-first c = search needs
 
 loop-less : tie.Need-loop-less Inv-loop μ-loop
 loop-less c = search needs
@@ -42,7 +42,7 @@ loop-again : tie.Need-loop-again Inv-loop μ-loop
 loop-again c =
     let l = c .before .before .before .loop in
     let a = c .before .before .before .before .before .args in
-    (omega arith, l .inv .1, idle-miss (a .n) (a .left .now) (l .i) (omega arith) (c .if1 .left) (l .inv .2))
+    (omega arith, l .inv .1, idle-miss (a .n) (a .left .now) (l .first) (omega arith) (c .if1 .left) (l .inv .2))
 
 returns-2 : tie.Need-returns-2 Inv-loop μ-loop
 returns-2 c =
@@ -60,7 +60,7 @@ idle-rows-spec =
     mul-if1
     element-copy-out-if1
     returns
-    add-i
+    add-first
     loop-less
     loop-again
     returns-2)
