@@ -2,7 +2,7 @@
 // 16 places; a number of rows above 16 counts as 16.
 
 ghost use mathlib.Core.Path.{_≡_};
-ghost use mathlib.Core.Bool.{cond, _&&_};
+ghost use mathlib.Core.Bool.{cond};
 ghost use Prim.Native.Nat.{_+_, _-_, _*_, _^_, _%_, _<_};
 ghost use lib.Dec.{ltb};
 ghost use lib.Count.{ones};
@@ -78,12 +78,6 @@ fn pick(on: bool, x: u16, y: u16) -> u16
     ensures { λ r. ⌜ r ≡ cond on x y ⌝ }
 {
     if on { x } else { y }
-}
-
-fn both(a: bool, b: bool) -> bool
-    ensures { λ r. ⌜ r ≡ a && b ⌝ }
-{
-    if a { b } else { false }
 }
 
 pub struct Marks {
@@ -167,7 +161,7 @@ pub fn late_word(left: &[u16; 16], end: u16) -> u16
     let mut w: u16 = 0;
     let mut i = 0;
     while i < 16 {
-        let on = both(has(end, i), 0 < left[i]);
+        let on = seq::both(has(end, i), 0 < left[i]);
         w = with_bit(w, i, on);
         i += 1;
     }
@@ -239,7 +233,7 @@ fn room(c: u16, d: u16) -> u16
 fn within(c: u16, d: u16, k: u16, left: u16, counter: u16) -> bool
     ensures { λ r. ⌜ r ≡ bounded c d k left counter ⌝ }
 {
-    both(both(k <= room(c, d), counter <= k), left <= c)
+    seq::both(seq::both(k <= room(c, d), counter <= k), left <= c)
 }
 
 // All rows take the same test, with no early way out: the rows past n are zero where C and D are.
@@ -255,7 +249,7 @@ pub fn in_bounds<'a>(
     let mut ok = true;
     let mut i = 0;
     while i < 16 {
-        ok = both(ok, within(c[i], d[i], k[i], left[i], counter[i]));
+        ok = seq::both(ok, within(c[i], d[i], k[i], left[i], counter[i]));
         i += 1;
     }
     ok
@@ -274,7 +268,7 @@ pub fn lates_kept(late: &[u64; 16], n: usize, ran: u64) -> bool
     let mut ok = true;
     let mut i = 0;
     while i < 16 {
-        ok = both(ok, late[i] <= most(i, n, ran));
+        ok = seq::both(ok, late[i] <= most(i, n, ran));
         i += 1;
     }
     ok

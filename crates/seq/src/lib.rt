@@ -1,6 +1,7 @@
 // Lists, words and bytes: what several crates need and none of them owns.
 
 ghost use mathlib.Core.Path.{_≡_};
+ghost use mathlib.Core.Bool.{_&&_};
 ghost use Prim.Native.Nat.{_-_, _<_};
 ghost use Rattle.seq.specs.Places.{at};
 ghost use Rattle.seq.specs.Bytes.{bigAt};
@@ -30,4 +31,10 @@ pub fn less(x: u16) -> u16
     ensures { λ r. ⌜ r ≡ x - 1 ⌝ }
 {
     if x == 0 { 0 } else { x - 1 }
+}
+
+pub fn both(a: bool, b: bool) -> bool
+    ensures { λ r. ⌜ r ≡ a && b ⌝ }
+{
+    if a { b } else { false }
 }
