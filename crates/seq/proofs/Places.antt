@@ -1,12 +1,12 @@
 -- Laws of lists by place, and of the loops that make them.
-use mathlib.Core.Path.{_≡_, refl, ap}
+use mathlib.Core.Path.{_≡_, refl, sym, ap}
 use mathlib.Core.List.{List, [], _∷_, _++_}
-use mathlib.Core.Bool.{Bool, true, false, cond}
+use mathlib.Core.Bool.{Bool, true, false, cond, _&&_, and-true, and-false, and-assoc}
 use Prim.Native.Nat.{ℕ, zero, suc, _+_, _≤_, _<_}
 use native.Mathlib.Numerals.{add-one}
 use native.Mathlib.Omega.{arith}
 use lib.ListN.{length, getD, set}
-use Rattle.seq.specs.Places.{tab, over, lead}
+use Rattle.seq.specs.Places.{tab, over, lead, every}
 
 module _ {A : Type 0} where
   pub tab-length : (n : ℕ) (f : ℕ → A) → length (tab n f) ≡ n
@@ -68,6 +68,21 @@ module _ {A : Type 0} where
   over-same (suc n) f [] e = refl
   over-same (suc n) f (x ∷ l) e = rw (e 0 x (omega arith), ← over-same n (λ i. f (suc i)) l (λ i y h. e (suc i) y (omega arith)))
 
+  -- two that agree on what stands there
+  pub over-alike : (d : A) (n : ℕ) (f g : ℕ → A → A) (l : List A) → ((i : ℕ) → i < n → f i (getD l i d) ≡ g i (getD l i d)) → over n f l ≡ over n g l
+  unfolding over
+  over-alike d zero f g l e = refl
+  over-alike d (suc n) f g [] e = refl
+  over-alike d (suc n) f g (x ∷ l) e = rw (e 0 (omega arith), over-alike d n (λ i. f (suc i)) (λ i. g (suc i)) l (λ i h. e (suc i) (omega arith)))
+
+  -- a place holds f of what stood there, or what stood there
+  pub over-either : (d : A) (n : ℕ) (f : ℕ → A → A) (l : List A) (i : ℕ) (P : A → Type 0) → P (f i (getD l i d)) → P (getD l i d) → P (getD (over n f l) i d)
+  unfolding over
+  over-either d zero f l i P p q = q
+  over-either d (suc n) f [] i P p q = q
+  over-either d (suc n) f (x ∷ l) zero P p q = p
+  over-either d (suc n) f (x ∷ l) (suc i) P p q = over-either d n (λ j. f (suc j)) l i P p q
+
   -- one place changes
   pub over-one : (d : A) (n : ℕ) (f : ℕ → A → A) (l : List A) (r : ℕ) (v : A) → r < n → v ≡ f r (getD l r d) → ((i : ℕ) (x : A) → (i ≡ r → ⊥) → f i x ≡ x) → set l r v ≡ over n f l
   unfolding over
@@ -116,3 +131,39 @@ unfolding lead
 lead-all zero p g i h = absurd (omega arith)
 lead-all (suc n) p g zero h = step-all (p 0) (lead-most n (λ i. p (suc i))) g .0
 lead-all (suc n) p g (suc i) h = lead-all n (λ i. p (suc i)) (step-all (p 0) (lead-most n (λ i. p (suc i))) g .1) i (omega arith)
+
+-- a test of all the first places
+pub both-true : (a b : Bool) → a && b ≡ true → (a ≡ true) × (b ≡ true)
+both-true true b e = (refl, e)
+both-true false b e = absurd (let z : _≡_ {A = ℕ} 0 1 = cc in omega arith)
+
+every-suc : (n : ℕ) (p : ℕ → Bool) → every (suc n) p ≡ every n p && p n
+unfolding every
+every-suc zero p = and-true (p 0)
+every-suc (suc n) p = rw (every-suc n (λ i. p (suc i))) (sym (and-assoc (p 0) (every n (λ i. p (suc i))) (p (suc n))))
+
+-- one more place
+pub every-more : (i : ℕ) (p : ℕ → Bool) → every (i + 1) p ≡ every i p && p i
+every-more i p = rw (add-one i) (every-suc i p)
+
+pub every-at : (n : ℕ) (p : ℕ → Bool) → every n p ≡ true → (i : ℕ) → i < n → p i ≡ true
+unfolding every
+every-at zero p e i h = absurd (omega arith)
+every-at (suc n) p e zero h = both-true (p 0) _ e .0
+every-at (suc n) p e (suc i) h = every-at n (λ i. p (suc i)) (both-true (p 0) _ e .1) i (omega arith)
+
+pub every-not : (n : ℕ) (p : ℕ → Bool) (i : ℕ) → i < n → p i ≡ false → every n p ≡ false
+unfolding every
+every-not zero p i h e = absurd (omega arith)
+every-not (suc n) p zero h e = rw e
+every-not (suc n) p (suc i) h e = rw (every-not n (λ i. p (suc i)) i (omega arith) e) (and-false (p 0))
+
+pub every-same : (n : ℕ) (p q : ℕ → Bool) → ((i : ℕ) → i < n → p i ≡ q i) → every n p ≡ every n q
+unfolding every
+every-same zero p q e = refl
+every-same (suc n) p q e = rw (e 0 (omega arith), every-same n (λ i. p (suc i)) (λ i. q (suc i)) (λ i h. e (suc i) (omega arith)))
+
+pub every-true : (n : ℕ) (p : ℕ → Bool) → ((i : ℕ) → i < n → p i ≡ true) → every n p ≡ true
+unfolding every
+every-true zero p e = refl
+every-true (suc n) p e = rw (e 0 (omega arith)) (every-true n (λ i. p (suc i)) (λ i h. e (suc i) (omega arith)))

@@ -6,7 +6,7 @@ use Prim.Native.Nat.{ℕ, zero, suc, _+_, _*_, _/_, _%_, _^_, _≤_, _<_}
 use native.Mathlib.Numerals.{add-one}
 use native.Mathlib.Omega.{arith}
 use native.Mathlib.Nat.{pow-suc, mul-comm, mul-assoc, add-zero, div-div-eq-div-mul, div-eq-of-lt}
-use lib.ListN.{length, getD}
+use lib.ListN.{length, getD, List·getD-eq-default}
 use lib.Bits.{bitOr, or-shifted-r}
 use lib.Pow.{pow-pos, shl-exact}
 use lib.Count.{ones, ones-step}
@@ -16,7 +16,7 @@ use Rattle.seq.specs.Words.{word, trues, bit}
 use Rattle.seq.proofs.Places.{tab-length, tab-at, tab-suc}
 
 -- words
-flag-le : (b : Bool) → flag b ≤ 1
+pub flag-le : (b : Bool) → flag b ≤ 1
 flag-le true = omega arith
 flag-le false = omega arith
 
@@ -30,7 +30,7 @@ flag-one : (b : Bool) → eqb (flag b) 1 ≡ b
 flag-one true = refl
 flag-one false = refl
 
--- the trues of ones of a word is the number of its flags
+-- the count of ones of a word is the number of its flags
 pub ones-word : (l : List Bool) → ones (word l) ≡ trues l
 unfolding word trues ones
 ones-word [] = refl
@@ -68,9 +68,17 @@ tab-word-more i f = rw (add-one i, tab-suc, word-append, tab-length i f, add-zer
 pub tab-bit : (n : ℕ) (f : ℕ → Bool) (i : ℕ) → i < n → bit (word (tab n f)) i ≡ f i
 tab-bit n f i h = rw (word-bit (tab n f) i) (tab-at n f i false h)
 
+pub tab-bit-past : (n : ℕ) (f : ℕ → Bool) (i : ℕ) → n ≤ i → bit (word (tab n f)) i ≡ false
+tab-bit-past n f i h = rw (word-bit (tab n f) i) (List·getD-eq-default (tab n f) false (rw (tab-length n f) h))
+
 pub or-bit : (w i : ℕ) → w < 2 ^ i → i < 16 → bitOr w (1 * 2 ^ i % 2 ^ 16) ≡ w + 2 ^ i
 or-bit w i h l = rw (shl-exact {a = 1} 1 i 16 (omega arith) (omega arith), or-shifted-r 1 i w h) (omega arith)
 
 pub bit-zero : (i : ℕ) → bit 0 i ≡ false
 unfolding word
 bit-zero i = word-bit [] i
+
+pub tab-word-none : (n : ℕ) (f : ℕ → Bool) → ((i : ℕ) → f i ≡ false) → word (tab n f) ≡ 0
+unfolding word tab
+tab-word-none zero f e = refl
+tab-word-none (suc n) f e = rw (e 0, tab-word-none n (λ i. f (suc i)) (λ i. e (suc i)))

@@ -1,7 +1,7 @@
 -- Lists as functions of a place's number, and back.
 use Prim.Native.Nat.{ℕ, zero, suc}
 use mathlib.Core.List.{List, [], _∷_}
-use mathlib.Core.Bool.{Bool, true, false, cond}
+use mathlib.Core.Bool.{Bool, true, false, cond, _&&_}
 use lib.ListN.{getD}
 
 -- 1 for true
@@ -28,3 +28,8 @@ over (suc n) f (x ∷ l) = f 0 x ∷ over n (λ i. f (suc i)) l
 unfoldable pub lead : ℕ → (ℕ → Bool) → ℕ
 lead zero p = 0
 lead (suc n) p = cond (p 0) (suc (lead n (λ i. p (suc i)))) 0
+
+-- each of 0, .. n - 1 has p
+unfoldable pub every : ℕ → (ℕ → Bool) → Bool
+every zero p = true
+every (suc n) p = p 0 && every n (λ i. p (suc i))

@@ -2,7 +2,7 @@
 
 ghost use mathlib.Core.Path.{_≡_};
 ghost use mathlib.Core.Bool.{_&&_, _||_};
-ghost use Prim.Native.Nat.{_<_};
+ghost use Prim.Native.Nat.{_-_, _<_};
 ghost use Rattle.seq.specs.Places.{at};
 ghost use Rattle.seq.specs.Bytes.{bigAt};
 
@@ -37,4 +37,11 @@ pub fn big(s: &[u8]) -> u16
     ensures { λ r. ⌜ r ≡ bigAt (now (s .entry)) 0 ⌝ }
 {
     byte(s, 0) * 256 + byte(s, 1)
+}
+
+// One less, and 0 stays.
+pub fn less(x: u16) -> u16
+    ensures { λ r. ⌜ r ≡ x - 1 ⌝ }
+{
+    if x == 0 { 0 } else { x - 1 }
 }

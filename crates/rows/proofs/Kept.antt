@@ -1,0 +1,116 @@
+-- Rows within their bounds, and how a slot keeps them there.
+use mathlib.Core.Path.{_≡_, refl, sym, _∙_}
+use mathlib.Core.List.{List}
+use mathlib.Core.Bool.{Bool, true, false, cond}
+use Prim.Native.Nat.{ℕ, zero, suc, _+_, _-_, _≤_, _<_}
+use native.Mathlib.Omega.{arith}
+use lib.Dec.{eqb, ltb, leb, leb·suc-zero, eqb·suc-zero}
+use borrow.Author.Tests.{le-leb, ltb-false, leb-true}
+use Rattle.seq.specs.Places.{flag, at, over}
+use Rattle.seq.specs.Words.{bit}
+use Rattle.seq.proofs.Places.{over-either, both-true, every-at, every-same, every-true}
+use Rattle.seq.proofs.Words.{flag-le}
+use Rattle.rows.specs.Rows.{idle, reloaded, released, charged, worked, dropped, counted, Within, bounded, cleared, rowsKept, inBounds, latesKept}
+
+-- the test of all places alike is the one of rows and zeros, where C and D are zero past n
+none : (x : ℕ) → leb x 0 ≡ eqb x 0
+none zero = refl
+none (suc x) = leb·suc-zero x ∙ sym (eqb·suc-zero x)
+
+bounded-zero : (k left counter : ℕ) → bounded 0 0 k left counter ≡ cleared k left counter
+bounded-zero zero left counter = rw (none counter, none left)
+bounded-zero (suc k) left counter = rw (leb·suc-zero k, eqb·suc-zero k)
+
+module _ (n : ℕ) (c d k left counter : List ℕ) where
+  pub bounds-kept : ((i : ℕ) → n ≤ i → i < 16 → (at c i ≡ 0) × (at d i ≡ 0)) → inBounds c d k left counter ≡ rowsKept n c d k left counter
+  unfolding inBounds rowsKept
+  bounds-kept z = every-same 16 _ _ (λ i h. split i h (ltb i n) refl)
+    where
+      split : (i : ℕ) → i < 16 → (b : Bool) → ltb i n ≡ b
+          → bounded (at c i) (at d i) (at k i) (at left i) (at counter i)
+          ≡ cond b (bounded (at c i) (at d i) (at k i) (at left i) (at counter i)) (cleared (at k i) (at left i) (at counter i))
+      split i h true e = refl
+      split i h false e = let y = z i (ltb-false _ _ e) h in rw (y .0, y .1) (bounded-zero (at k i) (at left i) (at counter i))
+
+low : (b : Bool) {x y z : ℕ} → x ≤ z → y ≤ z → cond b x y ≤ z
+low true g h = g
+low false g h = h
+
+-- what the test says of each place
+pub record Bounds (c d k left counter : ℕ) : Type 0 where
+  pub slack : k ≤ d - c
+  pub charge : counter ≤ k
+  pub work : left ≤ c
+
+bounded-says : {c d k left counter : ℕ} → bounded c d k left counter ≡ true → Bounds c d k left counter
+bounded-says e =
+    let a = both-true _ _ e in
+    let b = both-true _ _ (a .0) in
+    record { slack = leb-true _ _ (b .0); charge = leb-true _ _ (b .1); work = leb-true _ _ (a .1) }
+
+bounded-is : {c d k left counter : ℕ} → Bounds c d k left counter → bounded c d k left counter ≡ true
+bounded-is b = rw (le-leb _ _ (b .slack), le-leb _ _ (b .charge), le-leb _ _ (b .work))
+
+module _ (c d k : List ℕ) where
+  abbrev pub AllBounds : List ℕ → List ℕ → Type 0
+  AllBounds left counter = (i : ℕ) → i < 16 → Bounds (at c i) (at d i) (at k i) (at left i) (at counter i)
+
+  pub bounds-say : (left counter : List ℕ) → inBounds c d k left counter ≡ true → AllBounds left counter
+  unfolding inBounds
+  bounds-say left counter e i h = bounded-says (every-at 16 _ e i h)
+
+  pub bounds-are : (left counter : List ℕ) → AllBounds left counter → inBounds c d k left counter ≡ true
+  unfolding inBounds
+  bounds-are left counter b = every-true 16 _ (λ i h. bounded-is (b i h))
+
+  -- each step keeps them
+  module _ (left counter : List ℕ) (b : AllBounds left counter) where
+    counters-kept : (n : ℕ) (f : ℕ → ℕ → ℕ) → ((i x : ℕ) → x ≤ at k i → f i x ≤ at k i) → AllBounds left (over n f counter)
+    counters-kept n f g i h =
+        let y = b i h in
+        record { slack = y .slack; charge = over-either 0 n f counter i (λ x. x ≤ at k i) (g i _ (y .charge)) (y .charge); work = y .work }
+
+    works-kept : (f : ℕ → ℕ → ℕ) → ((i x : ℕ) → x ≤ at c i → f i x ≤ at c i) → AllBounds (over 16 f left) counter
+    works-kept f g i h =
+        let y = b i h in
+        record { slack = y .slack; charge = y .charge; work = over-either 0 16 f left i (λ x. x ≤ at c i) (g i _ (y .work)) (y .work) }
+
+    pub reloaded-kept : (n : ℕ) (l : List ℕ) → AllBounds left (reloaded n l k counter)
+    unfolding reloaded
+    reloaded-kept n l = counters-kept (idle n l) (λ i x. at k i) (λ i x h. omega arith)
+
+    pub charged-kept : (on : Bool) → AllBounds left (charged on counter)
+    unfolding charged
+    charged-kept on = counters-kept 16 (λ i x. x - flag on) (λ i x h. omega arith)
+
+    pub released-kept : (due : ℕ) → AllBounds (released due c left) counter
+    unfolding released
+    released-kept due = works-kept (λ i x. cond (bit due i) (at c i) x) (λ i x h. low (bit due i) (omega arith) h)
+
+    pub worked-kept : (row : ℕ) → AllBounds (worked row left) counter
+    unfolding worked
+    worked-kept row = works-kept (λ i x. x - flag (eqb i row)) (λ i x h. omega arith)
+
+    pub dropped-kept : (w : ℕ) → AllBounds (dropped w left) counter
+    unfolding dropped
+    dropped-kept w = works-kept (λ i x. cond (bit w i) 0 x) (λ i x h. low (bit w i) (omega arith) h)
+
+-- late counts
+module _ (n ran : ℕ) (late : List ℕ) (e : latesKept n ran late ≡ true) where
+  pub lates-say : (i : ℕ) → i < 16 → at late i ≤ cond (ltb i n) ran 0
+  unfolding latesKept
+  lates-say i h = leb-true _ _ (every-at 16 _ e i h)
+
+  pub lates-within : Within ran late
+  lates-within i h =
+      let z : cond (ltb i n) ran 0 ≤ ran = low (ltb i n) (omega arith) (omega arith) in
+      omega (arith, lates-say i h)
+
+  -- a slot more, where none past the rows is late
+  pub lates-kept : (w : ℕ) → ((i : ℕ) → n ≤ i → i < 16 → bit w i ≡ false) → latesKept n (ran + 1) (counted w late) ≡ true
+  unfolding latesKept counted
+  lates-kept w z = every-true 16 _ (λ i h. le-leb _ _ (split i h (ltb i n) refl (lates-say i h)))
+    where
+      split : (i : ℕ) → i < 16 → (b : Bool) → ltb i n ≡ b → at late i ≤ cond b ran 0 → at (over 16 (λ i x. x + flag (bit w i)) late) i ≤ cond b (ran + 1) 0
+      split i h true q g = over-either 0 16 _ late i (λ x. x ≤ ran + 1) (omega (arith, flag-le (bit w i))) (omega arith)
+      split i h false q g = over-either 0 16 _ late i (λ x. x ≤ 0) (rw (z i (ltb-false _ _ q) h) (omega arith)) g

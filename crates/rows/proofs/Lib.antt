@@ -1,0 +1,4 @@
+pub mod Idle
+pub mod Counts
+pub mod Points
+pub mod Kept
