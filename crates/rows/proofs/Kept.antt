@@ -1,20 +1,32 @@
 -- Rows within their bounds, and how a slot keeps them there.
-use mathlib.Core.Path.{_≡_, refl}
+use mathlib.Core.Path.{_≡_, refl, sym, _∙_}
 use mathlib.Core.List.{List}
-use mathlib.Core.Bool.{Bool, true, false, cond}
-use Prim.Native.Nat.{ℕ, _+_, _-_, _≤_, _<_}
+use mathlib.Core.Bool.{Bool, true, false, cond, _&&_, _||_, and-true, and-false}
+use Prim.Native.Nat.{ℕ, zero, suc, _+_, _-_, _≤_, _<_}
 use native.Mathlib.Omega.{arith}
-use lib.Dec.{eqb, ltb}
+use lib.Dec.{eqb, ltb, leb, leb·suc-zero, eqb·suc-zero}
 use borrow.Author.Tests.{eq-eqb, lt-ltb, le-ltb, le-leb, ltb-true, ltb-false, leb-true, eqb-true}
 use Rattle.seq.specs.Places.{flag, at, over}
 use Rattle.seq.specs.Words.{bit}
 use Rattle.seq.proofs.Places.{over-either, both-true, every-at, every-true}
 use Rattle.seq.proofs.Words.{flag-le}
-use Rattle.rows.specs.Rows.{rowsOf, idle, reloaded, released, charged, worked, dropped, counted, Within, rowKept, rowsKept, latesKept}
+use Rattle.rows.specs.Rows.{rowsOf, idle, reloaded, released, charged, worked, dropped, counted, rowKept, rowsKept, latesKept}
+use Rattle.rows.proofs.Counts.{Within}
 
 low : (b : Bool) {x y z : ℕ} → x ≤ z → y ≤ z → cond b x y ≤ z
 low true g h = g
 low false g h = h
+
+-- the bounds hold of zeros too
+none : (x : ℕ) → leb x 0 ≡ eqb x 0
+none zero = refl
+none (suc x) = leb·suc-zero x ∙ sym (eqb·suc-zero x)
+
+pub kept-alike : (used : Bool) (c d k left counter : ℕ) → leb k (d - c) && leb counter k && leb left c && (used || eqb k 0 && eqb left 0) ≡ rowKept used c d k left counter
+kept-alike true c d k left counter = and-true (leb k (d - c) && leb counter k && leb left c)
+kept-alike false c d zero zero counter = rw (le-leb 0 (d - c) (omega arith), none counter, le-leb 0 c (omega arith)) (and-true (eqb counter 0 && true))
+kept-alike false c d zero (suc left) counter = rw (eqb·suc-zero left, and-false (eqb counter 0)) (and-false (leb 0 (d - c) && leb counter 0 && leb (suc left) c))
+kept-alike false c d (suc k) left counter = rw (eqb·suc-zero k) (and-false (leb (suc k) (d - c) && leb counter (suc k) && leb left c))
 
 -- n counts as 16 where it is more
 pub below-rows : (i n : ℕ) → i < 16 → ltb i (rowsOf n) ≡ ltb i n

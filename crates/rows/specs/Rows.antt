@@ -1,5 +1,5 @@
 -- One slot's steps on the figures of the rows, in document 01's order. A figure of row i stands at place i of its list, from 0 on.
-use Prim.Native.Nat.{ℕ, zero, suc, _+_, _-_, _%_, _^_, _≤_, _<_, min}
+use Prim.Native.Nat.{ℕ, zero, suc, _+_, _-_, _%_, _^_, min}
 use mathlib.Core.List.{List}
 use mathlib.Core.Bool.{Bool, cond, _&&_}
 use lib.Dec.{eqb, ltb, leb}
@@ -76,7 +76,3 @@ rowsKept n c d k left counter = every 16 (λ i. rowKept (ltb i n) (at c i) (at d
 -- late counts at most the slots run, and zero past n
 unfoldable pub latesKept : ℕ → ℕ → List ℕ → Bool
 latesKept n ran late = every 16 (λ i. leb (at late i) (cond (ltb i n) ran 0))
-
--- no figure above b
-abbrev pub Within : ℕ → List ℕ → Type 0
-Within b l = (i : ℕ) → i < 16 → at l i ≤ b

@@ -2,7 +2,7 @@
 // 16 places; a number of rows above 16 counts as 16.
 
 ghost use mathlib.Core.Path.{_≡_};
-ghost use mathlib.Core.Bool.{cond};
+ghost use mathlib.Core.Bool.{cond, _||_};
 ghost use Prim.Native.Nat.{_+_, _-_, _*_, _^_, _%_, _<_};
 ghost use lib.Dec.{ltb};
 ghost use lib.Count.{ones};
@@ -230,14 +230,19 @@ fn room(c: u16, d: u16) -> u16
     if c < d { d - c } else { 0 }
 }
 
+fn either(a: bool, b: bool) -> bool
+    ensures { λ r. ⌜ r ≡ a || b ⌝ }
+{
+    if a { true } else { b }
+}
+
+// The bounds hold of zeros too, so a place past the rows need only be zero besides.
 fn row_kept(used: bool, c: u16, d: u16, k: u16, left: u16, counter: u16) -> bool
     ensures { λ r. ⌜ r ≡ rowKept used c d k left counter ⌝ }
 {
-    if used {
-        seq::both(seq::both(k <= room(c, d), counter <= k), left <= c)
-    } else {
-        seq::both(seq::both(k == 0, counter == 0), left == 0)
-    }
+    let bounds = seq::both(seq::both(k <= room(c, d), counter <= k), left <= c);
+    let zero = seq::both(k == 0, left == 0);
+    seq::both(bounds, either(used, zero))
 }
 
 // All places take the same test, with no early way out; j is i in 16 bits, as wide as what is compared beside it.
