@@ -167,3 +167,23 @@ pub every-true : (n : ℕ) (p : ℕ → Bool) → ((i : ℕ) → i < n → p i �
 unfolding every
 every-true zero p e = refl
 every-true (suc n) p e = rw (e 0 (omega arith)) (every-true n (λ i. p (suc i)) (λ i h. e (suc i) (omega arith)))
+
+-- each before the first that has not p has it, and that one has not
+step-before : (b : Bool) {x i : ℕ} → i < cond b (suc x) 0 → (b ≡ true) × (i ≤ x)
+step-before true g = (refl, omega arith)
+step-before false g = absurd (omega arith)
+
+pub lead-before : (n : ℕ) (p : ℕ → Bool) (i : ℕ) → i < lead n p → p i ≡ true
+unfolding lead
+lead-before zero p i h = absurd (omega arith)
+lead-before (suc n) p zero h = step-before (p 0) h .0
+lead-before (suc n) p (suc i) h = let y = step-before (p 0) h .1 in lead-before n (λ j. p (suc j)) i (omega arith)
+
+step-stop : (p : ℕ → Bool) (b : Bool) {x n : ℕ} → p 0 ≡ b → (x < n → p (suc x) ≡ false) → cond b (suc x) 0 < suc n → p (cond b (suc x) 0) ≡ false
+step-stop p true e h g = h (omega arith)
+step-stop p false e h g = e
+
+pub lead-stop : (n : ℕ) (p : ℕ → Bool) → lead n p < n → p (lead n p) ≡ false
+unfolding lead
+lead-stop zero p h = absurd (omega arith)
+lead-stop (suc n) p h = step-stop p (p 0) refl (lead-stop n (λ i. p (suc i))) h
