@@ -1,0 +1,25 @@
+-- `table::in_order` meets its contract. Assumes nothing.
+use mathlib.Core.Path.{_≡_, ap, refl}
+use Prim.Native.Nat.{ℕ, suc, _≤_, _<_, _-_, _+_}
+use native.Mathlib.Omega.{arith}
+use borrow.Author.Needs.{needs}
+use Rattle.table.proofs.in_order.Statement.{statement}
+use Rattle.table.proofs.in_order.Tie as tie
+use Rattle.table.proofs.in_order.Reads as reads
+use Rattle.table.proofs.in_order.Lts as lts
+use Rattle.seq.proofs.both.Reads as both-reads
+
+both-requires : tie.Need-both-requires
+both-requires c κs = search needs
+
+both-requires-2 : tie.Need-both-requires-2
+both-requires-2 c κs = search needs
+
+both-requires-3 : tie.Need-both-requires-3
+both-requires-3 c κs = search needs
+
+returns : tie.Need-returns
+returns c = rw (c .both3 .ensures, c .before .both2 .ensures, c .before .before .both .ensures)
+
+pub in-order-spec : {M : Type 1} → statement M
+in-order-spec = tie.close (tie.spec both-requires both-requires-2 both-requires-3 returns)
