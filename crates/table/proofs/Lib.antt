@@ -1,1 +1,3 @@
-pub mod RecordRows
+pub mod Verdicts
+pub mod Record
+pub mod WellFormed

@@ -7,8 +7,7 @@ use lib.ListN.{replicate}
 use Rattle.seq.specs.Places.{at, lead}
 use Rattle.table.specs.declared.Table.{Table}
 use Rattle.table.specs.declared.Verdict.{Verdict}
-use Rattle.table.specs.declared.Verdict.the-variants.{Taken, Refused}
-use Rattle.table.specs.Verdicts.{_andThen_}
+use Rattle.table.specs.Verdicts.{refuse, _andThen_}
 
 -- 1 ≤ C ≤ D ≤ T ≤ 4,096
 abbrev pub inOrder : ℕ → ℕ → ℕ → Bool
@@ -36,13 +35,13 @@ unfoldable pub fallingRow : ℕ → List ℕ → ℕ
 fallingRow n t = lead (min n 16) (rising t)
 
 unfoldable pub countVerdict : ℕ → Verdict
-countVerdict n = cond (eqb n 0 || ltb 16 n) (Refused 4 0) Taken
+countVerdict n = refuse (eqb n 0 || ltb 16 n) 4 0
 
 unfoldable pub rowsVerdict : ℕ → List ℕ → List ℕ → List ℕ → Verdict
-rowsVerdict n c t d = cond (ltb (unsoundRow n c t d) 16) (Refused 5 (suc (unsoundRow n c t d))) Taken
+rowsVerdict n c t d = refuse (ltb (unsoundRow n c t d) 16) 5 (suc (unsoundRow n c t d))
 
 unfoldable pub periodsVerdict : ℕ → List ℕ → Verdict
-periodsVerdict n t = cond (ltb (fallingRow n t) (min n 16)) (Refused 6 (suc (fallingRow n t))) Taken
+periodsVerdict n t = refuse (ltb (fallingRow n t) (min n 16)) 6 (suc (fallingRow n t))
 
 unfoldable pub formVerdict : ℕ → List ℕ → List ℕ → List ℕ → Verdict
 formVerdict n c t d = countVerdict n andThen rowsVerdict n c t d andThen periodsVerdict n t

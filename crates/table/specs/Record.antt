@@ -1,7 +1,7 @@
 -- The record of a table, big-endian: a version byte 1; two bytes with the number of bytes that follow them; a byte n; then n rows of C, T, D.
 use Prim.Native.Nat.{ℕ, zero, suc, _+_, _*_, _-_}
 use mathlib.Core.List.{List, [], _∷_, _++_}
-use mathlib.Core.Bool.{cond, _&&_}
+use mathlib.Core.Bool.{_&&_, not}
 use lib.Dec.{eqb, ltb}
 use lib.ListN.{length, drop, replicate}
 use Rattle.seq.specs.Places.{at, over}
@@ -11,8 +11,7 @@ use Rattle.table.specs.declared.Row.{Row}
 use Rattle.table.specs.declared.Reading.{Reading}
 use Rattle.table.specs.declared.Written.{Written}
 use Rattle.table.specs.declared.Verdict.{Verdict}
-use Rattle.table.specs.declared.Verdict.the-variants.{Taken, Refused}
-use Rattle.table.specs.Verdicts.{_andThen_, taken}
+use Rattle.table.specs.Verdicts.{refuse, _andThen_, taken}
 use Rattle.table.specs.Form.{formOf, noTable}
 
 -- the place of row i, and the length of a record of n rows
@@ -36,10 +35,9 @@ spelt s = rowsSpelt s (at s 3)
 -- refusals 1, 2 and 3
 unfoldable pub headVerdict : List ℕ → Verdict
 headVerdict s =
-    cond (ltb (length s) 4) (Refused 1 0)
-    (cond (eqb (at s 0) 1)
-    (cond (eqb (bigAt s 1) (length s - 3) && eqb (bigAt s 1) (1 + 6 * at s 3)) Taken (Refused 3 0))
-    (Refused 2 0))
+    refuse (ltb (length s) 4) 1 0
+    andThen refuse (not (eqb (at s 0) 1)) 2 0
+    andThen refuse (not (eqb (bigAt s 1) (length s - 3) && eqb (bigAt s 1) (1 + 6 * at s 3))) 3 0
 
 unfoldable pub readVerdict : List ℕ → Verdict
 readVerdict s = headVerdict s andThen formOf (spelt s)
@@ -64,7 +62,7 @@ recordOf x = headBytes (x .n) ++ rowsBytes x (x .n)
 
 -- refusals 4, 5, 6 and 12, for a buffer with so much room
 unfoldable pub writeVerdict : Table → ℕ → Verdict
-writeVerdict x room = formOf x andThen cond (ltb room (rowPlace (x .n))) (Refused 12 0) Taken
+writeVerdict x room = formOf x andThen refuse (ltb room (rowPlace (x .n))) 12 0
 
 unfoldable pub writtenOf : Table → ℕ → Written
 writtenOf x room = record { verdict = writeVerdict x room; length = taken (writeVerdict x room) (rowPlace (x .n)) 0 }

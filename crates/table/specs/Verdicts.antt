@@ -1,5 +1,6 @@
 -- What an entry says: taken, or refused with document 01's number and the row that it names.
 use Prim.Native.Nat.{ℕ}
+use mathlib.Core.Bool.{Bool, cond}
 use Rattle.table.specs.declared.Verdict.{Verdict}
 use Rattle.table.specs.declared.Verdict.the-variants.{Taken, Refused}
 
@@ -10,6 +11,10 @@ numberOf (Refused number row) = number
 abbrev pub rowNamed : Verdict → ℕ
 rowNamed Taken = 0
 rowNamed (Refused number row) = row
+
+-- refused with a number and a row where b
+abbrev pub refuse : Bool → ℕ → ℕ → Verdict
+refuse b number row = cond b (Refused number row) Taken
 
 -- the first refusal of two
 infixl 20 _andThen_

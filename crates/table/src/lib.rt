@@ -12,8 +12,10 @@ ghost use Rattle.seq.specs.Bytes.{bigAt, bigBytes};
 ghost use Rattle.table.specs.Verdicts.{numberOf, rowNamed, _andThen_};
 ghost use Rattle.table.specs.Form.{inOrder, allZero, sound, unsoundRow, fallingRow, countVerdict, rowsVerdict, periodsVerdict, formVerdict, formOf, noTable};
 ghost use Rattle.table.specs.Record.{rowPlace, rowSpelt, spelt, headVerdict, readOf, rowBytes, rowsBytes, headBytes, recordOf, writeVerdict, writtenOf, bufferOf};
-
-use seq::{both, either, byte, big};
+use seq::big;
+use seq::both;
+use seq::byte;
+use seq::either;
 
 // Rows in priority order: C slots in each period of T, by the deadline D. Those past n are zero.
 pub struct Table {
@@ -24,22 +26,37 @@ pub struct Table {
 }
 
 // Refused with its number and the row it names, from 1 on; 0 names none.
-pub enum Verdict { Taken, Refused(u8, usize) }
+pub enum Verdict {
+    Taken,
+    Refused(u8, usize),
+}
 
-pub struct Reading { pub verdict: Verdict, pub table: Table }
+pub struct Reading {
+    pub verdict: Verdict,
+    pub table: Table,
+}
 
-pub struct Written { pub verdict: Verdict, pub length: usize }
+pub struct Written {
+    pub verdict: Verdict,
+    pub length: usize,
+}
 
 pub fn number_of(v: Verdict) -> u8
     ensures { λ r. ⌜ r ≡ numberOf v ⌝ }
 {
-    match v { Verdict::Taken => 0, Verdict::Refused(number, _) => number }
+    match v {
+        Verdict::Taken => 0,
+        Verdict::Refused(number, _) => number
+    }
 }
 
 pub fn row_named(v: Verdict) -> usize
     ensures { λ r. ⌜ r ≡ rowNamed v ⌝ }
 {
-    match v { Verdict::Taken => 0, Verdict::Refused(_, row) => row }
+    match v {
+        Verdict::Taken => 0,
+        Verdict::Refused(_, row) => row
+    }
 }
 
 fn in_order(c: u16, t: u16, d: u16) -> bool
@@ -57,7 +74,11 @@ fn all_zero(c: u16, t: u16, d: u16) -> bool
 fn is_sound(inside: bool, c: u16, t: u16, d: u16) -> bool
     ensures { λ r. ⌜ r ≡ cond inside (inOrder c t d) (allZero c t d) ⌝ }
 {
-    if inside { in_order(c, t, d) } else { all_zero(c, t, d) }
+    if inside {
+        in_order(c, t, d)
+    } else {
+        all_zero(c, t, d)
+    }
 }
 
 // The first row that is not as it should be, 16 if all are.
@@ -67,7 +88,9 @@ fn unsound_row<'a>(n: usize, c: &'a [u16; 16], t: &'a [u16; 16], d: &'a [u16; 16
     let mut i = 0;
     while i < 16 {
         let ok = is_sound(i < n, c[i], t[i], d[i]);
-        if !ok { return i; }
+        if !ok {
+            return i;
+        }
         i += 1;
     }
     16
@@ -94,7 +117,9 @@ fn falling_row(n: usize, t: &[u16; 16]) -> usize
     let mut i = 0;
     while i < m {
         let b = before(i);
-        if t[i] < t[b] { return i; }
+        if t[i] < t[b] {
+            return i;
+        }
         i += 1;
     }
     m
@@ -104,14 +129,22 @@ fn count_verdict(n: usize) -> Verdict
     ensures { λ r. ⌜ r ≡ countVerdict n ⌝ }
 {
     let bad = either(n == 0, 16 < n);
-    if bad { Verdict::Refused(4, 0) } else { Verdict::Taken }
+    if bad {
+        Verdict::Refused(4, 0)
+    } else {
+        Verdict::Taken
+    }
 }
 
 fn rows_verdict<'a>(n: usize, c: &'a [u16; 16], t: &'a [u16; 16], d: &'a [u16; 16]) -> Verdict
     ensures { λ r. ⌜ r ≡ rowsVerdict n (now (c .entry)) (now (t .entry)) (now (d .entry)) ⌝ }
 {
     let i = unsound_row(n, c, t, d);
-    if i < 16 { Verdict::Refused(5, i + 1) } else { Verdict::Taken }
+    if i < 16 {
+        Verdict::Refused(5, i + 1)
+    } else {
+        Verdict::Taken
+    }
 }
 
 fn periods_verdict(n: usize, t: &[u16; 16]) -> Verdict
@@ -119,13 +152,20 @@ fn periods_verdict(n: usize, t: &[u16; 16]) -> Verdict
 {
     let i = falling_row(n, t);
     let m = rows(n);
-    if i < m { Verdict::Refused(6, i + 1) } else { Verdict::Taken }
+    if i < m {
+        Verdict::Refused(6, i + 1)
+    } else {
+        Verdict::Taken
+    }
 }
 
 fn and_then(v: Verdict, w: Verdict) -> Verdict
     ensures { λ r. ⌜ r ≡ (v andThen w) ⌝ }
 {
-    match v { Verdict::Taken => w, Verdict::Refused(number, row) => Verdict::Refused(number, row) }
+    match v {
+        Verdict::Taken => w,
+        Verdict::Refused(number, row) => Verdict::Refused(number, row)
+    }
 }
 
 // Refusals 4, 5 and 6 of a table that stands in four places.
@@ -142,13 +182,21 @@ pub fn form<'a>(n: usize, c: &'a [u16; 16], t: &'a [u16; 16], d: &'a [u16; 16]) 
 fn head(s: &[u8]) -> Verdict
     ensures { λ r. ⌜ r ≡ headVerdict (now (s .entry)) ⌝ }
 {
-    if s.len() < 4 { return Verdict::Refused(1, 0); }
+    if s.len() < 4 {
+        return Verdict::Refused(1, 0);
+    }
     let version = byte(s, 0);
-    if version != 1 { return Verdict::Refused(2, 0); }
+    if version != 1 {
+        return Verdict::Refused(2, 0);
+    }
     let field = wide(big(&s[1..3]));
     let n = wide(byte(s, 3));
     let fits = both(field == s.len() - 3, field == 1 + 6 * n);
-    if fits { Verdict::Taken } else { Verdict::Refused(3, 0) }
+    if fits {
+        Verdict::Taken
+    } else {
+        Verdict::Refused(3, 0)
+    }
 }
 
 fn wide(x: u16) -> usize
@@ -157,7 +205,11 @@ fn wide(x: u16) -> usize
     x as usize
 }
 
-struct Row { c: u16, t: u16, d: u16 }
+struct Row {
+    c: u16,
+    t: u16,
+    d: u16,
+}
 
 // The three numbers of a row's own six bytes.
 fn row_in(p: &[u8]) -> Row
@@ -173,7 +225,12 @@ fn row_in(p: &[u8]) -> Row
 fn none(n: usize) -> Table
     ensures { λ r. ⌜ r ≡ record { n = n; c = replicate 16 0; t = replicate 16 0; d = replicate 16 0 } ⌝ }
 {
-    Table { n: n, c: [0; 16], t: [0; 16], d: [0; 16] }
+    Table {
+        n: n,
+        c: [0; 16],
+        t: [0; 16],
+        d: [0; 16],
+    }
 }
 
 // The rows of a record, of which there are bytes enough.
@@ -201,11 +258,24 @@ pub fn read(s: &[u8]) -> Reading
     ensures { λ r. ⌜ r ≡ readOf (now (s .entry)) ⌝ }
 {
     let h = head(s);
-    let Verdict::Taken = h else { return Reading { verdict: h, table: none(0) }; };
+    let Verdict::Taken = h else {
+        return Reading {
+            verdict: h,
+            table: none(0),
+        };
+    };
     let x = table_in(s);
     let v = form(x.n, &x.c, &x.t, &x.d);
-    let Verdict::Taken = v else { return Reading { verdict: v, table: none(0) }; };
-    Reading { verdict: Verdict::Taken, table: x }
+    let Verdict::Taken = v else {
+        return Reading {
+            verdict: v,
+            table: none(0),
+        };
+    };
+    Reading {
+        verdict: Verdict::Taken,
+        table: x,
+    }
 }
 
 fn put_big(b: &mut [u8], p: usize, x: u16)
@@ -259,10 +329,23 @@ pub fn write(x: Table, b: &mut [u8]) -> Written
 {
     let n = x.n;
     let v = form(n, &x.c, &x.t, &x.d);
-    let Verdict::Taken = v else { return Written { verdict: v, length: 0 }; };
+    let Verdict::Taken = v else {
+        return Written {
+            verdict: v,
+            length: 0,
+        };
+    };
     let e = 4 + 6 * n;
-    if b.len() < e { return Written { verdict: Verdict::Refused(12, 0), length: 0 }; }
+    if b.len() < e {
+        return Written {
+            verdict: Verdict::Refused(12, 0),
+            length: 0,
+        };
+    }
     put_head(&mut *b, n);
     put_rows(&mut *b, x);
-    Written { verdict: Verdict::Taken, length: e }
+    Written {
+        verdict: Verdict::Taken,
+        length: e,
+    }
 }

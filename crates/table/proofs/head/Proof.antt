@@ -1,28 +1,17 @@
 -- `table::head` meets its contract. Assumes nothing.
-use mathlib.Core.Path.{_≡_, ap, refl, sym, _∙_}
-use mathlib.Core.Bool.{Bool, true, false, cond, _&&_, _||_, not}
-use mathlib.Core.List.{List, [], _∷_, _++_}
-use lib.Dec.{eqb, ltb, leb}
-use borrow.Author.Tests.{eq-eqb, ne-eqb, lt-ltb, le-ltb, le-leb, lt-leb, not-true, not-false}
-use lib.ListN.{length, take, drop, getD, replicate}
-use Rattle.seq.specs.Places.{at, lead, over, flag}
-use Rattle.seq.specs.Bytes.{bigAt, bigBytes}
-use Rattle.seq.proofs.Bytes.{big-part, sets-sets}
-use Rattle.seq.proofs.Places.{lead-most, lead-miss, lead-hit}
-use Rattle.table.specs.Verdicts.{_andThen_, taken}
-use Rattle.table.specs.Form.{inOrder, allZero, sound, unsoundRow, rising, fallingRow, countVerdict, rowsVerdict, periodsVerdict, formVerdict}
-use Rattle.table.specs.Record.{rowPlace, rowSpelt, column, spelt, headVerdict, readVerdict, readOf, rowBytes, rowsBytes, headBytes, recordOf, writeVerdict, writtenOf, bufferOf}
-use Prim.Native.Nat.{ℕ, zero, suc, _≤_, _<_, _-_, _+_, _*_, _/_, _%_, min}
+use mathlib.Core.Path.{_≡_, sym, _∙_}
+use borrow.Author.Tests.{eq-eqb, ne-eqb, lt-ltb, le-ltb}
+use lib.ListN.{length}
+use Rattle.seq.specs.Places.{at}
+use Rattle.seq.specs.Bytes.{bigAt}
+use Rattle.seq.proofs.Bytes.{big-part}
+use Rattle.table.specs.Verdicts.{taken}
+use Rattle.table.specs.Record.{headVerdict}
+use Prim.Native.Nat.{_-_}
 use native.Mathlib.Omega.{arith}
 use borrow.Author.Needs.{needs}
 use Rattle.table.proofs.head.Statement.{statement}
 use Rattle.table.proofs.head.Tie as tie
-use Rattle.table.proofs.head.Reads as reads
-use Rattle.table.proofs.head.Lts as lts
-use Rattle.seq.proofs.big.Reads as big-reads
-use Rattle.seq.proofs.both.Reads as both-reads
-use Rattle.seq.proofs.byte.Reads as byte-reads
-use Rattle.table.proofs.wide.Reads as wide-reads
 
 returns : tie.Need-returns
 unfolding headVerdict
@@ -90,7 +79,6 @@ returns-4 c =
     let f : c .before .before .before .before .wide .result ≡ bigAt s 1 = c .before .before .before .before .wide .ensures ∙ c .before .before .before .before .before .big .ensures ∙ big-part 2 1 s 0 (omega arith) in
     let e = sym (c .before .both .ensures) ∙ c .if3 .left in
     rw (le-ltb (length s) 4 (omega arith), eq-eqb (at s 0) 1 (rw v at (c .before .before .before .before .before .before .before .if2 .left)), ← n, ← f, e)
-
 
 pub head-spec : {M : Type 1} → statement M
 head-spec =

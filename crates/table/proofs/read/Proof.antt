@@ -1,16 +1,13 @@
 -- `table::read` meets its contract. Assumes nothing.
-use mathlib.Core.Path.{_≡_, ap, refl}
-use Prim.Native.Nat.{ℕ, suc, _≤_, _<_, _-_, _+_}
+use mathlib.Core.Path.{sym, _∙_}
+use Rattle.seq.specs.Places.{at}
+use Rattle.table.proofs.Record.{head-taken}
+use Rattle.table.specs.Record.{readVerdict, readOf}
+use Prim.Native.Nat.{_-_}
 use native.Mathlib.Omega.{arith}
 use borrow.Author.Needs.{needs}
 use Rattle.table.proofs.read.Statement.{statement}
 use Rattle.table.proofs.read.Tie as tie
-use Rattle.table.proofs.read.Reads as reads
-use Rattle.table.proofs.read.Lts as lts
-use Rattle.table.proofs.form.Reads as form-reads
-use Rattle.table.proofs.head.Reads as head-reads
-use Rattle.table.proofs.none.Reads as none-reads
-use Rattle.table.proofs.table_in.Reads as table-in-reads
 
 head-requires : tie.Need-head-requires
 head-requires c κs = search needs
@@ -25,10 +22,15 @@ none-requires : tie.Need-none-requires
 none-requires c κs = search needs
 
 returns : tie.Need-returns
-returns c = search needs
+unfolding readOf readVerdict
+returns c =
+    let e = sym (c .before .before .before .head .ensures) ∙ c .before .enum-told2 .given .1 in
+    rw (c .before .before .before .head .ensures, c .none .ensures, e)
 
 table-in-requires : tie.Need-table-in-requires
-table-in-requires c κs = search needs
+table-in-requires c κs =
+    let s = c .before .before .before .before .args .s .now in
+    omega (arith, head-taken s (sym (c .before .before .head .ensures) ∙ c .enum-told .given .1) .2)
 
 form-requires : tie.Need-form-requires
 form-requires c κs = search needs
@@ -43,10 +45,21 @@ none-requires-2 : tie.Need-none-requires-2
 none-requires-2 c κs = search needs
 
 returns-2 : tie.Need-returns-2
-returns-2 c = search needs
+unfolding readOf readVerdict
+returns-2 c =
+    let x = c .before .before .before .before .before .before .before .before .table-in .ensures in
+    let h = sym (c .before .before .before .before .before .before .before .before .before .before .before .head .ensures) ∙ c .before .before .before .before .before .before .before .before .before .enum-told .given .1 in
+    let v = rw x at (c .before .before .before .form .ensures) in
+    let e = sym v ∙ c .before .enum-told4 .given .1 in
+    rw (v, c .none2 .ensures, h, e)
 
 returns-3 : tie.Need-returns-3
-returns-3 c = search needs
+unfolding readOf readVerdict
+returns-3 c =
+    let x = c .before .before .before .before .before .before .before .table-in .ensures in
+    let h = sym (c .before .before .before .before .before .before .before .before .before .before .head .ensures) ∙ c .before .before .before .before .before .before .before .before .enum-told .given .1 in
+    let e = sym (rw x at (c .before .before .form .ensures)) ∙ c .enum-told3 .given .1 in
+    rw (x, h, e)
 
 pub read-spec : {M : Type 1} → statement M
 read-spec =

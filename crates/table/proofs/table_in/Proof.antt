@@ -1,32 +1,13 @@
 -- `table::table_in` meets its contract. Assumes nothing.
-use mathlib.Core.Path.{_≡_, ap, refl, sym, _∙_}
-use mathlib.Core.Bool.{Bool, true, false, cond, _&&_, _||_, not}
-use mathlib.Core.List.{List, [], _∷_, _++_}
-use lib.Dec.{eqb, ltb, leb}
-use borrow.Author.Tests.{eq-eqb, ne-eqb, lt-ltb, le-ltb, le-leb, lt-leb, not-true, not-false}
-use lib.ListN.{length, take, drop, getD, replicate, set, length-set}
-use lib.Seq.{sets, length-sets}
-use native.Mathlib.Numerals.{add-one}
-use Rattle.seq.specs.Places.{at, lead, over, flag}
-use Rattle.seq.specs.Bytes.{bigAt, bigBytes}
-use Rattle.seq.proofs.Bytes.{big-part, sets-sets}
-use Rattle.seq.proofs.Places.{lead-most, lead-miss, lead-hit, over-more}
-use Rattle.table.proofs.RecordRows.{spelt-more, spelt-min}
-use Rattle.table.specs.Verdicts.{_andThen_, taken}
-use Rattle.table.specs.Form.{inOrder, allZero, sound, unsoundRow, rising, fallingRow, countVerdict, rowsVerdict, periodsVerdict, formVerdict}
-use Rattle.table.specs.Record.{rowPlace, rowSpelt, column, rowsSpelt, spelt, headVerdict, readVerdict, readOf, rowBytes, rowsBytes, headBytes, recordOf, writeVerdict, writtenOf, bufferOf}
-use Prim.Native.Nat.{ℕ, zero, suc, _≤_, _<_, _-_, _+_, _*_, _/_, _%_, min}
+use mathlib.Core.Path.{_≡_, _∙_}
+use Rattle.seq.specs.Places.{at, over}
+use Rattle.table.proofs.Record.{spelt-more, spelt-min}
+use Rattle.table.specs.Record.{rowPlace, column, rowsSpelt}
+use Prim.Native.Nat.{_≤_, _-_, _+_, min}
 use native.Mathlib.Omega.{arith}
 use borrow.Author.Needs.{needs}
 use Rattle.table.proofs.table_in.Statement.{statement}
 use Rattle.table.proofs.table_in.Tie as tie
-use Rattle.table.proofs.table_in.Reads as reads
-use Rattle.table.proofs.table_in.Lts as lts
-use Rattle.seq.proofs.byte.Reads as byte-reads
-use Rattle.table.proofs.none.Reads as none-reads
-use Rattle.table.proofs.row_in.Reads as row-in-reads
-use Rattle.table.proofs.rows.Reads as rows-reads
-use Rattle.table.proofs.wide.Reads as wide-reads
 
 abbrev Inv-loop : tie.InvT-loop
 Inv-loop s n m x₀ i₀ x i = (i ≤ m) × (x ≡ rowsSpelt s i)
