@@ -2,15 +2,24 @@
 use mathlib.Core.Path.{_≡_}
 use mathlib.Core.List.{List}
 use mathlib.Core.Bool.{_||_}
-use Prim.Native.Nat.{ℕ, _≤_}
+use Prim.Native.Nat.{min, ℕ, _≤_}
 use native.Mathlib.Omega.{arith}
 use lib.Dec.{eqb, ltb}
 use borrow.Author.Tests.{eqb-false, ltb-false}
 use Rattle.seq.proofs.Tests.{either-false}
+use Rattle.seq.proofs.Places.{lead-most}
 use Rattle.table.specs.declared.Verdict.the-variants.{Taken}
 use Rattle.table.specs.Verdicts.{_andThen_}
-use Rattle.table.specs.Form.{countVerdict, rowsVerdict, periodsVerdict, formVerdict}
+use Rattle.table.specs.Form.{sound, unsoundRow, rising, fallingRow, countVerdict, rowsVerdict, periodsVerdict, formVerdict}
 use Rattle.table.proofs.Verdicts.{and-taken, refuse-taken}
+
+pub unsound-most : (n : ℕ) (c t d : List ℕ) → unsoundRow n c t d ≤ 16
+unfolding unsoundRow
+unsound-most n c t d = lead-most 16 (sound n c t d)
+
+pub falling-most : (n : ℕ) (t : List ℕ) → fallingRow n t ≤ min n 16
+unfolding fallingRow
+falling-most n t = lead-most (min n 16) (rising t)
 
 pub form-parts : (n : ℕ) (c t d : List ℕ) → formVerdict n c t d ≡ Taken → (countVerdict n ≡ Taken) × (rowsVerdict n c t d ≡ Taken) × (periodsVerdict n t ≡ Taken)
 unfolding formVerdict
