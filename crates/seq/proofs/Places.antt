@@ -2,9 +2,10 @@
 use mathlib.Core.Path.{_≡_, refl, sym, ap}
 use mathlib.Core.List.{List, [], _∷_, _++_}
 use mathlib.Core.Bool.{Bool, true, false, cond, _&&_, and-true, and-false, and-assoc}
-use Prim.Native.Nat.{ℕ, zero, suc, _+_, _≤_, _<_}
+use Prim.Native.Nat.{ℕ, zero, suc, _+_, _≤_, _<_, min}
 use native.Mathlib.Numerals.{add-one}
 use native.Mathlib.Omega.{arith}
+use native.Mathlib.Nat.{zero-min, min-zero, suc-min-suc}
 use lib.ListN.{length, getD, set}
 use Rattle.seq.specs.Places.{tab, over, lead, every}
 
@@ -45,6 +46,13 @@ module _ {A : Type 0} where
   over-out d (suc n) f [] i h = refl
   over-out d (suc n) f (x ∷ l) zero h = absurd (omega arith)
   over-out d (suc n) f (x ∷ l) (suc i) h = over-out d n (λ i. f (suc i)) l i (omega arith)
+
+  -- a list has no places past its length
+  pub over-min : (n : ℕ) (f : ℕ → A → A) (l : List A) → over (min n (length l)) f l ≡ over n f l
+  unfolding over
+  over-min zero f l = rw zero-min
+  over-min (suc n) f [] = rw min-zero
+  over-min (suc n) f (x ∷ l) = rw (suc-min-suc n (length l), over-min n (λ i. f (suc i)) l)
 
   over-set : (d : A) (n : ℕ) (f : ℕ → A → A) (l : List A) → set (over n f l) n (f n (getD l n d)) ≡ over (suc n) f l
   unfolding over
