@@ -7,6 +7,7 @@ use native.Mathlib.Numerals.{add-one}
 use native.Mathlib.Omega.{arith}
 use native.Mathlib.Nat.{zero-min, min-zero, suc-min-suc}
 use lib.ListN.{length, getD, set}
+use Rattle.seq.proofs.Tests.{both-true}
 use Rattle.seq.specs.Places.{tab, over, lead, every}
 
 module _ {A : Type 0} where
@@ -141,10 +142,6 @@ lead-all (suc n) p g zero h = step-all (p 0) (lead-most n (λ i. p (suc i))) g .
 lead-all (suc n) p g (suc i) h = lead-all n (λ i. p (suc i)) (step-all (p 0) (lead-most n (λ i. p (suc i))) g .1) i (omega arith)
 
 -- a test of all the first places
-pub both-true : (a b : Bool) → a && b ≡ true → (a ≡ true) × (b ≡ true)
-both-true true b e = (refl, e)
-both-true false b e = absurd (let z : _≡_ {A = ℕ} 0 1 = cc in omega arith)
-
 every-suc : (n : ℕ) (p : ℕ → Bool) → every (suc n) p ≡ every n p && p n
 unfolding every
 every-suc zero p = and-true (p 0)
@@ -195,3 +192,15 @@ pub lead-stop : (n : ℕ) (p : ℕ → Bool) → lead n p < n → p (lead n p) �
 unfolding lead
 lead-stop zero p h = absurd (omega arith)
 lead-stop (suc n) p h = step-stop p (p 0) refl (lead-stop n (λ i. p (suc i))) h
+
+-- and it is the only such number
+pub lead-is : (n : ℕ) (p : ℕ → Bool) (i : ℕ) → i < n → p i ≡ false → ((j : ℕ) → j < i → p j ≡ true) → lead n p ≡ i
+unfolding lead
+lead-is zero p i h e f = absurd (omega arith)
+lead-is (suc n) p zero h e f = rw e
+lead-is (suc n) p (suc i) h e f = rw (f 0 (omega arith)) (ap suc (lead-is n (λ j. p (suc j)) i (omega arith) e (λ j k. f (suc j) (omega arith))))
+
+pub lead-full : (n : ℕ) (p : ℕ → Bool) → ((i : ℕ) → i < n → p i ≡ true) → lead n p ≡ n
+unfolding lead
+lead-full zero p f = refl
+lead-full (suc n) p f = rw (f 0 (omega arith)) (ap suc (lead-full n (λ i. p (suc i)) (λ i h. f (suc i) (omega arith))))

@@ -1,3 +1,4 @@
 pub mod Verdicts
 pub mod Record
 pub mod WellFormed
+pub mod Refusals
