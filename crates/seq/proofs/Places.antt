@@ -2,11 +2,13 @@
 use mathlib.Core.Path.{_≡_, refl, sym, ap}
 use mathlib.Core.List.{List, [], _∷_, _++_}
 use mathlib.Core.Bool.{Bool, true, false, cond, _&&_, and-true, and-false, and-assoc}
-use Prim.Native.Nat.{ℕ, zero, suc, _+_, _≤_, _<_}
+use Prim.Native.Nat.{ℕ, zero, suc, _+_, _≤_, _<_, min}
 use native.Mathlib.Numerals.{add-one}
 use native.Mathlib.Omega.{arith}
+use native.Mathlib.Nat.{zero-min, min-zero, suc-min-suc}
 use lib.ListN.{length, getD, set}
 use Rattle.seq.specs.Places.{tab, over, lead, every}
+use Rattle.seq.proofs.Tests.{both-true}
 
 module _ {A : Type 0} where
   pub tab-length : (n : ℕ) (f : ℕ → A) → length (tab n f) ≡ n
@@ -45,6 +47,13 @@ module _ {A : Type 0} where
   over-out d (suc n) f [] i h = refl
   over-out d (suc n) f (x ∷ l) zero h = absurd (omega arith)
   over-out d (suc n) f (x ∷ l) (suc i) h = over-out d n (λ i. f (suc i)) l i (omega arith)
+
+  -- a list has no places past its length
+  pub over-min : (n : ℕ) (f : ℕ → A → A) (l : List A) → over (min n (length l)) f l ≡ over n f l
+  unfolding over
+  over-min zero f l = rw zero-min
+  over-min (suc n) f [] = rw min-zero
+  over-min (suc n) f (x ∷ l) = rw (suc-min-suc n (length l), over-min n (λ i. f (suc i)) l)
 
   over-set : (d : A) (n : ℕ) (f : ℕ → A → A) (l : List A) → set (over n f l) n (f n (getD l n d)) ≡ over (suc n) f l
   unfolding over
@@ -133,10 +142,6 @@ lead-all (suc n) p g zero h = step-all (p 0) (lead-most n (λ i. p (suc i))) g .
 lead-all (suc n) p g (suc i) h = lead-all n (λ i. p (suc i)) (step-all (p 0) (lead-most n (λ i. p (suc i))) g .1) i (omega arith)
 
 -- a test of all the first places
-pub both-true : (a b : Bool) → a && b ≡ true → (a ≡ true) × (b ≡ true)
-both-true true b e = (refl, e)
-both-true false b e = absurd (let z : _≡_ {A = ℕ} 0 1 = cc in omega arith)
-
 every-suc : (n : ℕ) (p : ℕ → Bool) → every (suc n) p ≡ every n p && p n
 unfolding every
 every-suc zero p = and-true (p 0)
