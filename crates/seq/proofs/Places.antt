@@ -9,6 +9,7 @@ use native.Mathlib.Nat.{zero-min, min-zero, suc-min-suc}
 use lib.ListN.{length, getD, set}
 use Rattle.seq.proofs.Tests.{both-true}
 use Rattle.seq.specs.Places.{tab, over, lead, every}
+use Rattle.seq.proofs.Tests.{both-true}
 
 module _ {A : Type 0} where
   pub tab-length : (n : ℕ) (f : ℕ → A) → length (tab n f) ≡ n
