@@ -6,10 +6,14 @@ use Prim.Native.Nat.{ℕ, zero, suc, _+_, _≤_, _<_, min}
 use native.Mathlib.Numerals.{add-one}
 use native.Mathlib.Omega.{arith}
 use native.Mathlib.Nat.{zero-min, min-zero, suc-min-suc}
-use lib.ListN.{length, getD, set}
+use lib.ListN.{length, getD, set, replicate}
+use Rattle.seq.specs.Places.{at, tab, over, lead, every}
 use Rattle.seq.proofs.Tests.{both-true}
-use Rattle.seq.specs.Places.{tab, over, lead, every}
-use Rattle.seq.proofs.Tests.{both-true}
+
+pub at-zeros : (n i : ℕ) → at (replicate n 0) i ≡ 0
+at-zeros zero i = refl
+at-zeros (suc n) zero = refl
+at-zeros (suc n) (suc i) = at-zeros n i
 
 module _ {A : Type 0} where
   pub tab-length : (n : ℕ) (f : ℕ → A) → length (tab n f) ≡ n

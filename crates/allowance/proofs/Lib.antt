@@ -1,0 +1,4 @@
+pub mod Row
+pub mod Tests
+pub mod Theorems
+pub mod Cases
