@@ -1,18 +1,23 @@
 -- Laws of numbers of two bytes, at any place.
 use mathlib.Core.Path.{_≡_, refl, ap, sym, _∙_}
 use mathlib.Core.List.{List, [], _∷_, _++_, append-assoc}
-use Prim.Native.Nat.{ℕ, zero, suc, _+_, _*_, _/_, _%_, _≤_, _<_}
-use native.Mathlib.Nat.{div-add-mod', add-assoc}
+use Prim.Native.Nat.{ℕ, zero, suc, _+_, _-_, _*_, _/_, _%_, _≤_, _<_}
+use native.Mathlib.Nat.{div-add-mod', add-assoc, add-zero}
 use native.Mathlib.Omega.{arith}
 use lib.ListN.{length, getD, take, drop, set}
 use lib.Seq.{getD-take, getD-drop, sets, getD-append-add, drop-cons}
 use Rattle.seq.specs.Places.{at}
 use Rattle.seq.specs.Bytes.{bigAt, bigBytes, Bytes}
+use Rattle.seq.proofs.Places.{rest-part}
 
 -- in a part of a list, that starts at p
 pub big-part : (m p : ℕ) (l : List ℕ) (q : ℕ) → q + 1 < m → bigAt (take m (drop p l)) q ≡ bigAt l (p + q)
 big-part m p l q h =
     rw (getD-take m (drop p l) q 0 (omega arith), getD-take m (drop p l) (q + 1) 0 h, getD-drop p l q 0, getD-drop p l (q + 1) 0, add-assoc p q 1)
+
+-- in the part that starts at p and has all that follows
+pub big-rest : (p : ℕ) (l : List ℕ) → bigAt (take (length l - p) (drop p l)) 0 ≡ bigAt l p
+big-rest p l = rw (rest-part p l, getD-drop p l 0 0, getD-drop p l (0 + 1) 0, add-zero p)
 
 -- behind a list that is p long
 pub big-behind : (s l : List ℕ) (q : ℕ) → bigAt (s ++ l) (length s + q) ≡ bigAt l q

@@ -2,10 +2,11 @@
 use mathlib.Core.Path.{_≡_, refl, sym, ap}
 use mathlib.Core.List.{List, [], _∷_, _++_}
 use mathlib.Core.Bool.{Bool, true, false, cond, _&&_, and-true, and-false, and-assoc}
-use Prim.Native.Nat.{ℕ, zero, suc, _+_, _≤_, _<_}
+use Prim.Native.Nat.{ℕ, zero, suc, _+_, _-_, _≤_, _<_}
 use native.Mathlib.Numerals.{add-one}
 use native.Mathlib.Omega.{arith}
-use lib.ListN.{length, getD, set}
+use lib.ListN.{length, getD, take, drop, set, length-drop}
+use lib.Seq.{take-all}
 use Rattle.seq.specs.Places.{tab, over, lead, every}
 
 module _ {A : Type 0} where
@@ -90,6 +91,10 @@ module _ {A : Type 0} where
   over-one d (suc n) f [] r v h e g = refl
   over-one d (suc n) f (x ∷ l) zero v h e g = rw (e, ← over-same n (λ i. f (suc i)) l (λ i y h. g (suc i) y (λ q. omega arith)))
   over-one d (suc n) f (x ∷ l) (suc r) v h e g = rw (g 0 x (λ q. omega arith)) (ap (λ (k : List A). x ∷ k) (over-one d n (λ i. f (suc i)) l r v (omega arith) e (λ i y q. g (suc i) y (λ p. q (omega arith)))))
+
+  -- the part that starts at p and has all that follows
+  pub rest-part : (p : ℕ) (l : List A) → take (length l - p) (drop p l) ≡ drop p l
+  rest-part p l = take-all (length l - p) (drop p l) (rw (length-drop p l) (omega arith))
 
 -- the first that has not p
 step-most : (b : Bool) {x n : ℕ} → x ≤ n → cond b (suc x) 0 ≤ suc n
