@@ -2,11 +2,13 @@
 use mathlib.Core.Path.{_≡_, refl, sym, ap}
 use mathlib.Core.List.{List, [], _∷_, _++_}
 use mathlib.Core.Bool.{Bool, true, false, cond, _&&_, and-true, and-false, and-assoc}
-use Prim.Native.Nat.{ℕ, zero, suc, _+_, _-_, _≤_, _<_}
+use Prim.Native.Nat.{ℕ, zero, suc, _+_, _-_, _≤_, _<_, min}
 use native.Mathlib.Numerals.{add-one}
 use native.Mathlib.Omega.{arith}
+use borrow.Author.Tests.{leb-true, leb-false, le-leb, lt-leb}
+use lib.Dec.{leb}
 use lib.ListN.{length, getD, take, drop, set, length-drop}
-use lib.Seq.{take-all}
+use lib.Seq.{take-all, take-nil}
 use Rattle.seq.specs.Places.{tab, over, lead, every}
 
 module _ {A : Type 0} where
@@ -96,6 +98,13 @@ module _ {A : Type 0} where
   pub rest-part : (p : ℕ) (l : List A) → take (length l - p) (drop p l) ≡ drop p l
   rest-part p l = take-all (length l - p) (drop p l) (rw (length-drop p l) (omega arith))
 
+  -- the first i, of which there may be fewer
+  pub take-most : (i n : ℕ) (l : List A) → n ≡ min i (length l) → take n l ≡ take i l
+  take-most i n [] e = rw (take-nil {A = A} n, take-nil {A = A} i)
+  take-most zero n (x ∷ l) e = let z : n ≡ 0 = omega arith in rw z
+  take-most (suc i) zero (x ∷ l) e = absurd (omega arith)
+  take-most (suc i) (suc n) (x ∷ l) e = ap (λ (k : List A). x ∷ k) (take-most i n l (omega arith))
+
 -- the first that has not p
 step-most : (b : Bool) {x n : ℕ} → x ≤ n → cond b (suc x) 0 ≤ suc n
 step-most true h = omega arith
@@ -136,6 +145,14 @@ unfolding lead
 lead-all zero p g i h = absurd (omega arith)
 lead-all (suc n) p g zero h = step-all (p 0) (lead-most n (λ i. p (suc i))) g .0
 lead-all (suc n) p g (suc i) h = lead-all n (λ i. p (suc i)) (step-all (p 0) (lead-most n (λ i. p (suc i))) g .1) i (omega arith)
+
+-- two comparisons that say the same
+pub leb-alike : (a b c d : ℕ) → (c ≤ d → a ≤ b) → (d < c → b < a) → leb a b ≡ leb c d
+leb-alike a b c d f g = go (leb c d) refl
+  where
+    go : (t : Bool) → leb c d ≡ t → leb a b ≡ leb c d
+    go true e = rw (e, le-leb a b (f (leb-true c d e)))
+    go false e = rw (e, lt-leb a b (g (leb-false c d e)))
 
 -- a test of all the first places
 pub both-true : (a b : Bool) → a && b ≡ true → (a ≡ true) × (b ≡ true)
