@@ -5,12 +5,13 @@ use mathlib.Core.Bool.{Bool, true, false, cond}
 use Prim.Native.Nat.{ℕ, _+_, _-_, _≤_, _<_}
 use native.Mathlib.Omega.{arith}
 use native.Mathlib.Nat.{add-assoc}
-use borrow.Author.Tests.{leb-true, leb-false, le-leb, lt-leb}
+use borrow.Author.Tests.{leb-true, leb-false}
 use lib.Dec.{eqb, leb}
 use lib.ListN.{length, take, drop, take-append-drop, length-drop}
 use lib.Seq.{take-all, getD-drop}
 use Rattle.seq.specs.Places.{at}
 use Rattle.seq.specs.Bytes.{bigAt}
+use Rattle.seq.proofs.Places.{leb-alike}
 use Rattle.events.specs.Events.{recordLength, recordOf, eventsOf, eventAt, widthOf}
 use Rattle.events.specs.declared.Event.{Event}
 use Rattle.events.specs.declared.Event.the-variants.{End, Slot, Lost, Request, Bad}
@@ -64,13 +65,6 @@ event-forward (Request name size) h g = omega arith
 event-forward Bad h g = absurd (g refl)
 
 -- An event read from the events' part is the one that stands in the input, behind the record
-leb-alike : (a b c d : ℕ) → (c ≤ d → a ≤ b) → (d < c → b < a) → leb a b ≡ leb c d
-leb-alike a b c d f g = go (leb c d) refl
-  where
-    go : (t : Bool) → leb c d ≡ t → leb a b ≡ leb c d
-    go true e = rw (e, le-leb a b (f (leb-true c d e)))
-    go false e = rw (e, lt-leb a b (g (leb-false c d e)))
-
 big-drop : (s : List ℕ) (k p : ℕ) → bigAt (drop k s) p ≡ bigAt s (k + p)
 big-drop s k p = rw (getD-drop k s p 0, getD-drop k s (p + 1) 0, ← add-assoc k p 1)
 
