@@ -2,14 +2,16 @@
 use mathlib.Core.Path.{_≡_, refl, sym, ap}
 use mathlib.Core.List.{List, [], _∷_, _++_}
 use mathlib.Core.Bool.{Bool, true, false, cond, _&&_, and-true, and-false, and-assoc}
-use Prim.Native.Nat.{ℕ, zero, suc, _+_, _≤_, _<_, min}
+use Prim.Native.Nat.{ℕ, zero, suc, _+_, _≤_, _<_, min, _-_}
 use native.Mathlib.Numerals.{add-one}
 use native.Mathlib.Omega.{arith}
 use native.Mathlib.Nat.{zero-min, min-zero, suc-min-suc}
-use lib.ListN.{length, getD, set, replicate}
-use lib.Seq.{ext-getD}
+use lib.ListN.{length, getD, set, replicate, take, drop, length-drop}
+use lib.Seq.{ext-getD, take-all, take-nil}
 use Rattle.seq.specs.Places.{at, tab, over, lead, every}
 use Rattle.seq.proofs.Tests.{both-true}
+use borrow.Author.Tests.{leb-true, leb-false, le-leb, lt-leb}
+use lib.Dec.{leb}
 
 pub at-zeros : (n i : ℕ) → at (replicate n 0) i ≡ 0
 at-zeros zero i = refl
@@ -117,6 +119,17 @@ module _ {A : Type 0} where
   over-one d (suc n) f (x ∷ l) zero v h e g = rw (e, ← over-same n (λ i. f (suc i)) l (λ i y h. g (suc i) y (λ q. omega arith)))
   over-one d (suc n) f (x ∷ l) (suc r) v h e g = rw (g 0 x (λ q. omega arith)) (ap (λ (k : List A). x ∷ k) (over-one d n (λ i. f (suc i)) l r v (omega arith) e (λ i y q. g (suc i) y (λ p. q (omega arith)))))
 
+  -- the part that starts at p and has all that follows
+  pub rest-part : (p : ℕ) (l : List A) → take (length l - p) (drop p l) ≡ drop p l
+  rest-part p l = take-all (length l - p) (drop p l) (rw (length-drop p l) (omega arith))
+
+  -- the first i, of which there may be fewer
+  pub take-most : (i n : ℕ) (l : List A) → n ≡ min i (length l) → take n l ≡ take i l
+  take-most i n [] e = rw (take-nil {A = A} n, take-nil {A = A} i)
+  take-most zero n (x ∷ l) e = let z : n ≡ 0 = omega arith in rw z
+  take-most (suc i) zero (x ∷ l) e = absurd (omega arith)
+  take-most (suc i) (suc n) (x ∷ l) e = ap (λ (k : List A). x ∷ k) (take-most i n l (omega arith))
+
 -- the first that has not p
 step-most : (b : Bool) {x n : ℕ} → x ≤ n → cond b (suc x) 0 ≤ suc n
 step-most true h = omega arith
@@ -157,6 +170,14 @@ unfolding lead
 lead-all zero p g i h = absurd (omega arith)
 lead-all (suc n) p g zero h = step-all (p 0) (lead-most n (λ i. p (suc i))) g .0
 lead-all (suc n) p g (suc i) h = lead-all n (λ i. p (suc i)) (step-all (p 0) (lead-most n (λ i. p (suc i))) g .1) i (omega arith)
+
+-- two comparisons that say the same
+pub leb-alike : (a b c d : ℕ) → (c ≤ d → a ≤ b) → (d < c → b < a) → leb a b ≡ leb c d
+leb-alike a b c d f g = go (leb c d) refl
+  where
+    go : (t : Bool) → leb c d ≡ t → leb a b ≡ leb c d
+    go true e = rw (e, le-leb a b (f (leb-true c d e)))
+    go false e = rw (e, lt-leb a b (g (leb-false c d e)))
 
 -- a test of all the first places
 every-suc : (n : ℕ) (p : ℕ → Bool) → every (suc n) p ≡ every n p && p n
