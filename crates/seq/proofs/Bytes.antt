@@ -11,7 +11,7 @@ use mathlib.Core.Bool.{Bool, true, false}
 use borrow.Author.Tests.{leb-true, leb-false}
 use lib.Dec.{leb}
 use Rattle.seq.specs.Places.{at}
-use Rattle.seq.specs.Bytes.{bigAt, bigBytes}
+use Rattle.seq.specs.Bytes.{bigAt, bigBytes, Bytes}
 use Rattle.seq.proofs.Places.{rest-part}
 
 -- in a part of a list, that starts at p
