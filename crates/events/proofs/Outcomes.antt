@@ -1,22 +1,26 @@
--- No two different outcomes satisfy the contract of a public function.
-use mathlib.Core.Path.{_≡_}
+-- No two outcomes meet the contract of a public function: the result, and what stands in a lent place.
 use mathlib.Core.List.{List}
 use Prim.Native.Nat.{ℕ}
-use Rattle.seq.proofs.Outcome.{one-outcome}
-use Rattle.events.specs.Events.{recordLength, recordOf, eventsOf, eventAt, widthOf}
-use Rattle.events.specs.declared.Event.{Event}
+use denote.Ref.{now}
+use Rattle.seq.specs.Outcomes.{OneOutcome}
+use Rattle.seq.proofs.Outcomes.{one-outcome}
+use Rattle.events.proofs.record_length.Reads as record-length
+use Rattle.events.proofs.record.Reads as record-part
+use Rattle.events.proofs.events.Reads as events
+use Rattle.events.proofs.event_at.Reads as event-at
+use Rattle.events.proofs.width.Reads as width
 
-pub record-length-one : (s : List ℕ) {a b : ℕ} → a ≡ recordLength s → b ≡ recordLength s → a ≡ b
-record-length-one s = one-outcome
+record-length-one : OneOutcome record-length.Post (λ κs x s. x)
+record-length-one = one-outcome record-length.Post _ _ (λ κs a x s p. p)
 
-pub record-one : (s : List ℕ) {a b : List ℕ} → a ≡ recordOf s → b ≡ recordOf s → a ≡ b
-record-one s = one-outcome
+record-one : OneOutcome {X = λ κs. List ℕ} record-part.Post (λ κs x s. now x)
+record-one = one-outcome record-part.Post _ _ (λ κs a x s p. p)
 
-pub events-one : (s : List ℕ) {a b : List ℕ} → a ≡ eventsOf s → b ≡ eventsOf s → a ≡ b
-events-one s = one-outcome
+events-one : OneOutcome {X = λ κs. List ℕ} events.Post (λ κs x s. now x)
+events-one = one-outcome events.Post _ _ (λ κs a x s p. p)
 
-pub event-at-one : (s : List ℕ) (p : ℕ) {a b : Event} → a ≡ eventAt s p → b ≡ eventAt s p → a ≡ b
-event-at-one s p = one-outcome
+event-at-one : OneOutcome event-at.Post (λ κs x s. x)
+event-at-one = one-outcome event-at.Post _ _ (λ κs a x s p. p)
 
-pub width-one : (e : Event) {a b : ℕ} → a ≡ widthOf e → b ≡ widthOf e → a ≡ b
-width-one e = one-outcome
+width-one : OneOutcome width.Post (λ κs x s. x)
+width-one = one-outcome width.Post _ _ (λ κs a x s p. p)

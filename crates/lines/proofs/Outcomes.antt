@@ -1,46 +1,52 @@
--- No two different outcomes satisfy the contract of a public function. What is lent has an outcome too: the buffer behind it.
-use mathlib.Core.Path.{_≡_}
-use mathlib.Core.List.{List, []}
-use Prim.Native.Nat.{ℕ, _+_, _-_, min}
-use lib.ListN.{length}
-use lib.Seq.{sets}
-use Rattle.seq.proofs.Outcome.{one-outcome}
-use Rattle.lines.specs.Lines.{decimal, slotLine, refusedLine, badLine, totalLine, longLine, lineOf, extended, said, withText, behind}
-use Rattle.lines.specs.declared.Line.{Line}
-use Rattle.lines.specs.declared.Shown.{Shown}
+-- No two outcomes meet the contract of a public function: the result, and what stands in a lent place.
+use mathlib.Core.List.{List}
+use Prim.Native.Nat.{ℕ}
+use denote.Ref.{now}
+use Rattle.seq.specs.Outcomes.{OneOutcome}
+use Rattle.seq.proofs.Outcomes.{one-outcome}
+use Rattle.lines.proofs.copy.Reads as copy
+use Rattle.lines.proofs.blank.Reads as blank
+use Rattle.lines.proofs.put.Reads as put
+use Rattle.lines.proofs.put_number.Reads as put-number
+use Rattle.lines.proofs.slot_line.Reads as slot-line
+use Rattle.lines.proofs.refused_line.Reads as refused-line
+use Rattle.lines.proofs.bad_line.Reads as bad-line
+use Rattle.lines.proofs.total_line.Reads as total-line
+use Rattle.lines.proofs.long_line.Reads as long-line
+use Rattle.lines.proofs.append.Reads as append
 
-pub copy-one : (out t : List ℕ) (p : ℕ) {a b : ℕ} → a ≡ p + min (length t) (length out - p) → b ≡ p + min (length t) (length out - p) → a ≡ b
-copy-one out t p = one-outcome
+copy-one : OneOutcome copy.Post (λ κs x s. x)
+copy-one = one-outcome copy.Post _ _ (λ κs a x s p. p .0)
 
-pub copy-lent-one : (out t : List ℕ) (p : ℕ) {a b : List ℕ} → a ≡ sets out p t → b ≡ sets out p t → a ≡ b
-copy-lent-one out t p = one-outcome
+copy-lent-one : OneOutcome {X = λ κs. List ℕ} copy.Post (λ κs x s. now (s .0))
+copy-lent-one = one-outcome copy.Post _ _ (λ κs a x s p. p .1)
 
-pub blank-one : {a b : Line} → a ≡ lineOf [] → b ≡ lineOf [] → a ≡ b
-blank-one = one-outcome
+blank-one : OneOutcome blank.Post (λ κs x s. x)
+blank-one = one-outcome blank.Post _ _ (λ κs a x s p. p)
 
-pub put-one : (line : Line) (t : List ℕ) {a b : Line} → a ≡ extended line t → b ≡ extended line t → a ≡ b
-put-one line t = one-outcome
+put-one : OneOutcome put.Post (λ κs x s. x)
+put-one = one-outcome put.Post _ _ (λ κs a x s p. p)
 
-pub put-number-one : (line : Line) (x : ℕ) {a b : Line} → a ≡ extended line (decimal x) → b ≡ extended line (decimal x) → a ≡ b
-put-number-one line x = one-outcome
+put-number-one : OneOutcome put-number.Post (λ κs x s. x)
+put-number-one = one-outcome put-number.Post _ _ (λ κs a x s p. p)
 
-pub slot-line-one : (slot : ℕ) (used : Shown) (word : ℕ) {a b : Line} → a ≡ lineOf (slotLine slot used word) → b ≡ lineOf (slotLine slot used word) → a ≡ b
-slot-line-one slot used word = one-outcome
+slot-line-one : OneOutcome slot-line.Post (λ κs x s. x)
+slot-line-one = one-outcome slot-line.Post _ _ (λ κs a x s p. p)
 
-pub refused-line-one : (number row : ℕ) {a b : Line} → a ≡ lineOf (refusedLine number row) → b ≡ lineOf (refusedLine number row) → a ≡ b
-refused-line-one number row = one-outcome
+refused-line-one : OneOutcome refused-line.Post (λ κs x s. x)
+refused-line-one = one-outcome refused-line.Post _ _ (λ κs a x s p. p)
 
-pub bad-line-one : (offset : ℕ) {a b : Line} → a ≡ lineOf (badLine offset) → b ≡ lineOf (badLine offset) → a ≡ b
-bad-line-one offset = one-outcome
+bad-line-one : OneOutcome bad-line.Post (λ κs x s. x)
+bad-line-one = one-outcome bad-line.Post _ _ (λ κs a x s p. p)
 
-pub total-line-one : (hard given empty lost late : ℕ) {a b : Line} → a ≡ lineOf (totalLine hard given empty lost late) → b ≡ lineOf (totalLine hard given empty lost late) → a ≡ b
-total-line-one hard given empty lost late = one-outcome
+total-line-one : OneOutcome total-line.Post (λ κs x s. x)
+total-line-one = one-outcome total-line.Post _ _ (λ κs a x s p. p)
 
-pub long-line-one : {a b : Line} → a ≡ lineOf longLine → b ≡ lineOf longLine → a ≡ b
-long-line-one = one-outcome
+long-line-one : OneOutcome long-line.Post (λ κs x s. x)
+long-line-one = one-outcome long-line.Post _ _ (λ κs a x s p. p)
 
-pub append-one : (out : List ℕ) (p : ℕ) (line : Line) {a b : ℕ} → a ≡ behind out p (said line) → b ≡ behind out p (said line) → a ≡ b
-append-one out p line = one-outcome
+append-one : OneOutcome append.Post (λ κs x s. x)
+append-one = one-outcome append.Post _ _ (λ κs a x s p. p .0)
 
-pub append-lent-one : (out : List ℕ) (p : ℕ) (line : Line) {a b : List ℕ} → a ≡ withText out p (said line) → b ≡ withText out p (said line) → a ≡ b
-append-lent-one out p line = one-outcome
+append-lent-one : OneOutcome {X = λ κs. List ℕ} append.Post (λ κs x s. now (s .0))
+append-lent-one = one-outcome append.Post _ _ (λ κs a x s p. p .1)

@@ -3,4 +3,4 @@ pub mod Words
 pub mod Bytes
 pub mod Tests
 pub mod Outcomes
-pub mod Outcome
+pub mod OwnOutcomes
