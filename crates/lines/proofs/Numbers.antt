@@ -87,6 +87,20 @@ pub decimal-front : (x : ℕ) → 0 < x → 48 < at (decimal x) 0
 decimal-front =
     by-digits (λ x l. 0 < x → 48 < at l 0) (λ x h g. omega arith) (λ x l h f g. front l (digit (x % 10) ∷ []) (f (omega arith)))
 
+-- and only digits
+abbrev pub Digit : ℕ → Type 0
+Digit x = (48 ≤ x) × (x ≤ 57)
+
+one-more : (l : List ℕ) (d : ℕ) → Digit d → ((i : ℕ) → i < length l → Digit (at l i)) → (i : ℕ) → i < length (l ++ d ∷ []) → Digit (at (l ++ d ∷ []) i)
+one-more [] d g f zero h = g
+one-more [] d g f (suc i) h = absurd (omega arith)
+one-more (x ∷ l) d g f zero h = f 0 (omega arith)
+one-more (x ∷ l) d g f (suc i) h = one-more l d g (λ j k. f (suc j) (omega arith)) i (omega arith)
+
+pub decimal-digits : (x i : ℕ) → i < length (decimal x) → Digit (at (decimal x) i)
+decimal-digits =
+    by-digits (λ x l. (i : ℕ) → i < length l → Digit (at l i)) (λ x h. one-more [] (digit x) (omega arith) (λ i k. absurd (omega arith))) (λ x l h f. one-more l (digit (x % 10)) (omega arith) f)
+
 -- How many digits
 pub decimal-least : (x : ℕ) → 1 ≤ length (decimal x)
 decimal-least =

@@ -1,5 +1,5 @@
 -- `lines::append` meets its contract. Assumes nothing.
-use mathlib.Core.Path.{_≡_, sym}
+use mathlib.Core.Path.{_≡_, sym, _∙_}
 use mathlib.Core.Bool.{true, false}
 use Prim.Native.Nat.{_-_, _+_, min}
 use native.Mathlib.Omega.{arith}
@@ -26,7 +26,7 @@ returns c =
     let a = c .before .before .before .before .before .args in
     let e : length (a .line .bytes) ≡ 128 = search needs in
     let f : leb (a .p + length (said (a .line))) (length (a .out .now)) ≡ false =
-    rw (said-length (a .line) e, ← c .before .before .least .ensures, ← c .before .fits2 .ensures) (not-true _ (c .if1 .taken)) in
+    rw (said-length (a .line) e, ← c .before .before .least .ensures) (sym (c .before .fits2 .ensures) ∙ not-true _ (c .if1 .taken)) in
     (rw f, rw f)
 
 array-share-prefix-b : tie.Need-array-share-prefix-b
@@ -56,7 +56,7 @@ returns-2 c =
     let e : length (a .line .bytes) ≡ 128 = search needs in
     let m : take (n .result) (a .line .bytes) ≡ t = take-most (a .line .length) (n .result) (a .line .bytes) (rw e (n .ensures)) in
     let f : leb (a .p + length t) (length (a .out .now)) ≡ true =
-    rw (said-length (a .line) e, ← n .ensures, ← c .before .before .before .before .before .before .fits2 .ensures) (not-false _ (c .before .before .before .before .before .if1 .left)) in
+    rw (said-length (a .line) e, ← n .ensures) (sym (c .before .before .before .before .before .before .fits2 .ensures) ∙ not-false _ (c .before .before .before .before .before .if1 .left)) in
     let k : min (length t) (length (a .out .now) - a .p) ≡ length t = omega (arith, leb-true (a .p + length t) (length (a .out .now)) f) in
     (rw (f, x .ensures .0, m, k), rw (f, x .ensures .1, m))
 
