@@ -2,14 +2,13 @@
 use mathlib.Core.Path.{_≡_, refl, _∙_}
 use mathlib.Core.List.{List}
 use mathlib.Core.Bool.{Bool, true, false}
-use Prim.Native.Nat.{ℕ, zero, suc, _+_, _-_, _≤_, _<_, min}
-use native.Mathlib.Decide.{decLe}
+use Prim.Native.Nat.{ℕ, suc, _+_, _-_, _≤_, _<_}
 use native.Mathlib.Omega.{arith}
 use native.Mathlib.Numerals.{add-one}
 use lib.Dec.{ltb}
 use borrow.Author.Tests.{lt-ltb, le-ltb, ltb-false}
 use lib.ListN.{length, replicate}
-use Rattle.seq.specs.Places.{at, over}
+use Rattle.seq.specs.Places.{at}
 use Rattle.seq.proofs.Places.{lead-most, lead-all, lead-is, lead-full, over-in, over-out, over-length, at-zeros}
 use Rattle.law.proofs.Work.{holds-held, held-small, allowance-most, allowance-holds}
 use Rattle.table.specs.declared.Table.{Table}
@@ -20,34 +19,8 @@ use Rattle.table.specs.WellFormed.{WellFormed}
 use Rattle.table.proofs.WellFormed.{taken-iff}
 use Rattle.table.proofs.Verdicts.{and-taken, refuse-taken}
 use Rattle.table.specs.Form.{formOf}
-use Rattle.allowance.specs.Test.{smallest, rowHolds, rowAllowance, lackingRow, allowances, refusedTest, testVerdict, testOf, AllInForm}
-
-pub smallest-next : (f : ℕ → ℕ) (i : ℕ) → 1 ≤ i → smallest f (i + 1 - 1) ≡ min (smallest f (i - 1)) (f i)
-unfolding smallest
-smallest-next f zero p = absurd (omega arith)
-smallest-next f (suc i) p =
-    let a : suc i + 1 - 1 ≡ suc i = omega arith in
-    let b : suc i - 1 ≡ i = omega arith in
-    rw (a, b)
-
--- none is smaller, and one is as small
-pub smallest-least : (f : ℕ → ℕ) (n i : ℕ) → i ≤ n → smallest f n ≤ f i
-unfolding smallest
-smallest-least f zero i q = let e : i ≡ 0 = omega arith in rw e (omega arith)
-smallest-least f (suc n) i q =
-    elim (decLe i n) [
-      | yes r ↦ omega (arith, smallest-least f n i r)
-      | no r ↦ (let e : i ≡ suc n = omega arith in rw e (omega arith))
-    ]
-
-pub smallest-met : (f : ℕ → ℕ) (n : ℕ) → (i : ℕ) × (i ≤ n) × (smallest f n ≡ f i)
-unfolding smallest
-smallest-met f zero = (0, omega arith, refl)
-smallest-met f (suc n) =
-    elim (decLe (smallest f n) (f (suc n))) [
-      | yes r ↦ (let x = smallest-met f n in (x .0, omega (arith, x .1), omega (arith, x .2)))
-      | no r ↦ (suc n, omega arith, omega arith)
-    ]
+use Rattle.allowance.specs.Test.{smallest, rowHolds, rowAllowance, lackingRow, filled, allowances, refusedTest, testVerdict, testOf}
+use Rattle.allowance.proofs.Smallest.{smallest-least, smallest-met}
 
 -- the first row that does not hold 0
 abbrev rowOf : Table → ℕ
@@ -64,31 +37,12 @@ module _ (x : Table) where
   test-lacks i f e q = rw (f, ← e, lt-ltb i (x .n) q, add-one)
 
   pub test-passes : (i k : ℕ) (each : List ℕ) → formOf x ≡ Taken → i ≡ rowOf x → x .n ≤ i
-      → each ≡ over i (λ i y. rowAllowance (x .c) (x .t) (x .d) i) (replicate 16 0) → k ≡ smallest (at each) (x .n - 1)
+      → each ≡ filled (x .c) (x .t) (x .d) i (replicate 16 0) → k ≡ smallest (at each) (x .n - 1)
       → record { verdict = Taken; k = k; each = each } ≡ testOf x
   unfolding testOf testVerdict allowances lackingRow
   test-passes i k each f e q a s =
       let n : i ≡ x .n = omega (arith, lead-most (x .n) (λ i. rowHolds (x .c) (x .t) (x .d) i 0)) in
       rw (f, ← e, le-ltb i (x .n) q, s, a, n)
-
--- what a well-formed table gives the search
-pub well-in-form : (x : Table) → WellFormed (x .n) (x .c) (x .t) (x .d) → AllInForm (x .c) (x .t) (x .d) (x .n)
-well-in-form x w =
-    record {
-      few = w .counted .1;
-      row =
-          λ i q.
-          record {
-            rows =
-                record {
-                  few = omega (arith, w .counted .1);
-                  some = λ h r. w .ordered h (omega arith) .some;
-                  within = λ h r. (let o = w .ordered h (omega arith) in omega (arith, o .due, o .within));
-                  small = λ h r. w .ordered h (omega arith) .longest;
-                };
-            due = (let o = w .ordered i q in omega (arith, o .within, o .longest));
-          };
-    }
 
 pub taken-well : (x : Table) → formOf x ≡ Taken → WellFormed (x .n) (x .c) (x .t) (x .d)
 taken-well x = taken-iff (x .n) (x .c) (x .t) (x .d) .0

@@ -26,7 +26,7 @@ use Rattle.allowance.specs.Row.{IsRoom}
 use Rattle.allowance.specs.Test.{rowHolds, lackingRow, testVerdict, testOf}
 use Rattle.allowance.specs.Accepted.{Holds, Accepted, TestSays, Allowed, Figures, Outcome}
 use Rattle.allowance.specs.Accepted.TestSays.{form, lacks, accepted}
-use Rattle.allowance.specs.Theorems.{AcceptedExactly, VerdictExactly, AllowanceLargest, SmallestAllowance, RefusedZero, TestOnly, RoomOnly}
+use Rattle.allowance.specs.Theorems.{AcceptedExactly, VerdictExactly, EachIsLargest, KIsSmallest, RefusedZero, TestOnly, RoomOnly}
 use Rattle.allowance.proofs.Row.{room-is, is-room}
 use Rattle.allowance.proofs.Tests.{taken-well, verdict-taken, verdict-lacks, each-length, each-holds, each-most, each-past, k-least, k-met, refused-is}
 
@@ -125,11 +125,11 @@ module _ (x : Table) where
 pub test-only : TestOnly
 test-only x r = (λ e. subst (λ (s : Tested). Outcome x s) (sym e) (outcome x), outcome-only x r)
 
-pub allowance-largest : AllowanceLargest
-allowance-largest x a i q = let f = allowed x (accepted-exactly x .1 a) in (f .held i q, f .most i q)
+pub each-is-largest : EachIsLargest
+each-is-largest x a i q = let f = allowed x (accepted-exactly x .1 a) in (f .held i q, f .most i q)
 
-pub smallest-allowance : SmallestAllowance
-smallest-allowance x a = let f = allowed x (accepted-exactly x .1 a) in (f .least, f .met)
+pub k-is-smallest : KIsSmallest
+k-is-smallest x a = let f = allowed x (accepted-exactly x .1 a) in (f .least, f .met)
 
 pub refused-zero : RefusedZero
 refused-zero x n = go (testOf x .verdict) refl

@@ -1,13 +1,15 @@
 // The test of a table, and the allowances of its rows.
 
 ghost use mathlib.Core.Path.{_≡_};
-ghost use Prim.Native.Nat.{ℕ, _+_, _*_, _-_, _≤_, _<_, min, max};
-ghost use Rattle.seq.specs.Places.{at, over};
+ghost use Prim.Native.Nat.{_+_, _*_, _-_, _≤_, min, max};
+ghost use Rattle.seq.specs.Places.{at};
 ghost use Rattle.law.specs.Sums.{ceil};
 ghost use Rattle.law.specs.Work.{W};
 ghost use Rattle.law.specs.Slack.{slack};
-ghost use Rattle.allowance.specs.Row.{roomOf, Sized, InForm};
-ghost use Rattle.allowance.specs.Test.{rowAllowance, lackingRow, AllInForm, smallest, refusedTest, testOf};
+ghost use Rattle.table.specs.WellFormed.{WellFormed};
+ghost use Rattle.allowance.specs.Row.{roomOf};
+ghost use Rattle.allowance.specs.InForm.{Sized, InForm};
+ghost use Rattle.allowance.specs.Test.{lackingRow, filled, smallest, refusedTest, testOf};
 use table::Table;
 use table::Verdict;
 use table::form;
@@ -55,7 +57,7 @@ fn work<'a>(c: &'a [u16; 16], t: &'a [u16; 16], i: usize, x: u64) -> u64
     w
 }
 
-// The better of s and what the need w leaves of x slots, one added.
+// The larger of s and one more than what a need of w leaves of x slots.
 fn better(s: u64, x: u64, w: u64) -> u64
     requires { ⌜ x ≤ 4096 ⌝ }
     ensures { λ r. ⌜ r ≡ max s (x + 1 - w) ⌝ }
@@ -102,8 +104,8 @@ fn fill<'a>(
     t: &'a [u16; 16],
     d: &'a [u16; 16],
 ) -> usize
-    requires { ⌜ AllInForm (now c) (now t) (now d) n ⌝ }
-    ensures { λ r. ⌜ (r ≡ lackingRow (now (c .entry)) (now (t .entry)) (now (d .entry)) n) × (now (each .exit) ≡ over r (λ i x. rowAllowance (now (c .entry)) (now (t .entry)) (now (d .entry)) i) (now (each .entry))) ⌝ }
+    requires { ⌜ WellFormed n (now c) (now t) (now d) ⌝ }
+    ensures { λ r. ⌜ (r ≡ lackingRow (now (c .entry)) (now (t .entry)) (now (d .entry)) n) × (now (each .exit) ≡ filled (now (c .entry)) (now (t .entry)) (now (d .entry)) r (now (each .entry))) ⌝ }
 {
     let mut i = 0;
     while i < n {

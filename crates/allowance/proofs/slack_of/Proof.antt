@@ -44,7 +44,7 @@ add-better : tie.Need-add-better Inv-loop μ-loop
 add-better c =
     let a = c .before .before .before .before .before .before .args in
     let z = c .before .before .before .before .before .before .pre .rows in
-    omega (arith, z .within (a .i) (omega arith), z .small (a .i) (omega arith))
+    omega (arith, z .within (a .i) (omega arith), z .longest (a .i) (omega arith))
 
 better-requires : tie.Need-better-requires Inv-loop μ-loop
 better-requires c κs = search needs

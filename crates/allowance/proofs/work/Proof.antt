@@ -39,8 +39,8 @@ share-requires c κs =
     let q : l .h < c .before .before .before .before .args .i = omega arith in
     let some = p .0 .some (l .h) q in
     let within = p .0 .within (l .h) q in
-    let small = p .0 .small (l .h) q in
-    (omega arith, omega arith, small, p .1)
+    let longest = p .0 .longest (l .h) q in
+    (omega arith, omega arith, longest, p .1)
 
 add-w : tie.Need-add-w Inv-loop μ-loop
 add-w c = search needs
