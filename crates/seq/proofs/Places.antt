@@ -6,9 +6,14 @@ use Prim.Native.Nat.{ℕ, zero, suc, _+_, _≤_, _<_, min}
 use native.Mathlib.Numerals.{add-one}
 use native.Mathlib.Omega.{arith}
 use native.Mathlib.Nat.{zero-min, min-zero, suc-min-suc}
-use lib.ListN.{length, getD, set}
-use Rattle.seq.specs.Places.{tab, over, lead, every}
+use lib.ListN.{length, getD, set, replicate}
+use Rattle.seq.specs.Places.{at, tab, over, lead, every}
 use Rattle.seq.proofs.Tests.{both-true}
+
+pub at-zeros : (n i : ℕ) → at (replicate n 0) i ≡ 0
+at-zeros zero i = refl
+at-zeros (suc n) zero = refl
+at-zeros (suc n) (suc i) = at-zeros n i
 
 module _ {A : Type 0} where
   pub tab-length : (n : ℕ) (f : ℕ → A) → length (tab n f) ≡ n
@@ -140,6 +145,43 @@ unfolding lead
 lead-all zero p g i h = absurd (omega arith)
 lead-all (suc n) p g zero h = step-all (p 0) (lead-most n (λ i. p (suc i))) g .0
 lead-all (suc n) p g (suc i) h = lead-all n (λ i. p (suc i)) (step-all (p 0) (lead-most n (λ i. p (suc i))) g .1) i (omega arith)
+
+-- each before it has p
+step-first : (b : Bool) (x : ℕ) → 0 < cond b (suc x) 0 → b ≡ true
+step-first true x h = refl
+step-first false x h = absurd (omega arith)
+
+step-rest : (b : Bool) {x i : ℕ} → suc i < cond b (suc x) 0 → i < x
+step-rest true h = omega arith
+step-rest false h = absurd (omega arith)
+
+pub lead-before : (n : ℕ) (p : ℕ → Bool) (i : ℕ) → i < lead n p → p i ≡ true
+unfolding lead
+lead-before zero p i h = absurd (omega arith)
+lead-before (suc n) p zero h = step-first (p 0) (lead n (λ j. p (suc j))) h
+lead-before (suc n) p (suc i) h = lead-before n (λ j. p (suc j)) i (step-rest (p 0) h)
+
+-- it has not
+step-at : (p : ℕ → Bool) (b : Bool) {x n : ℕ} → p 0 ≡ b → (x < n → p (suc x) ≡ false) → cond b (suc x) 0 < suc n → p (cond b (suc x) 0) ≡ false
+step-at p true e f h = f (omega arith)
+step-at p false e f h = e
+
+pub lead-at : (n : ℕ) (p : ℕ → Bool) → lead n p < n → p (lead n p) ≡ false
+unfolding lead
+lead-at zero p h = absurd (omega arith)
+lead-at (suc n) p h = step-at p (p 0) refl (lead-at n (λ i. p (suc i))) h
+
+-- and it is the only such number
+pub lead-is : (n : ℕ) (p : ℕ → Bool) (i : ℕ) → i < n → p i ≡ false → ((j : ℕ) → j < i → p j ≡ true) → lead n p ≡ i
+unfolding lead
+lead-is zero p i h e f = absurd (omega arith)
+lead-is (suc n) p zero h e f = rw e
+lead-is (suc n) p (suc i) h e f = rw (f 0 (omega arith)) (ap suc (lead-is n (λ j. p (suc j)) i (omega arith) e (λ j k. f (suc j) (omega arith))))
+
+pub lead-full : (n : ℕ) (p : ℕ → Bool) → ((i : ℕ) → i < n → p i ≡ true) → lead n p ≡ n
+unfolding lead
+lead-full zero p f = refl
+lead-full (suc n) p f = rw (f 0 (omega arith)) (ap suc (lead-full n (λ i. p (suc i)) (λ i h. f (suc i) (omega arith))))
 
 -- a test of all the first places
 every-suc : (n : ℕ) (p : ℕ → Bool) → every (suc n) p ≡ every n p && p n

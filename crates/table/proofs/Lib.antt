@@ -1,3 +1,5 @@
 pub mod Verdicts
 pub mod Record
 pub mod WellFormed
+pub mod Refusals
+pub mod Outcomes

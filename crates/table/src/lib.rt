@@ -9,7 +9,7 @@ ghost use lib.Seq.{sets};
 ghost use lib.Dec.{ltb};
 ghost use Rattle.seq.specs.Places.{at};
 ghost use Rattle.seq.specs.Bytes.{bigAt, bigBytes};
-ghost use Rattle.table.specs.Verdicts.{numberOf, rowNamed, _andThen_};
+ghost use Rattle.table.specs.Verdicts.{numberOf, rowNamed, refuse, _andThen_};
 ghost use Rattle.table.specs.Form.{inOrder, allZero, sound, unsoundRow, fallingRow, countVerdict, rowsVerdict, periodsVerdict, formVerdict, formOf, noTable};
 ghost use Rattle.table.specs.Record.{rowPlace, rowSpelt, spelt, headVerdict, readOf, rowBytes, rowsBytes, headBytes, recordOf, writeVerdict, writtenOf, bufferOf};
 use seq::big;
@@ -125,38 +125,34 @@ fn falling_row(n: usize, t: &[u16; 16]) -> usize
     m
 }
 
-fn count_verdict(n: usize) -> Verdict
-    ensures { λ r. ⌜ r ≡ countVerdict n ⌝ }
+fn refusal(b: bool, number: u8, row: usize) -> Verdict
+    ensures { λ r. ⌜ r ≡ refuse b number row ⌝ }
 {
-    let bad = either(n == 0, 16 < n);
-    if bad {
-        Verdict::Refused(4, 0)
+    if b {
+        Verdict::Refused(number, row)
     } else {
         Verdict::Taken
     }
+}
+
+fn count_verdict(n: usize) -> Verdict
+    ensures { λ r. ⌜ r ≡ countVerdict n ⌝ }
+{
+    refusal(either(n == 0, 16 < n), 4, 0)
 }
 
 fn rows_verdict<'a>(n: usize, c: &'a [u16; 16], t: &'a [u16; 16], d: &'a [u16; 16]) -> Verdict
     ensures { λ r. ⌜ r ≡ rowsVerdict n (now (c .entry)) (now (t .entry)) (now (d .entry)) ⌝ }
 {
     let i = unsound_row(n, c, t, d);
-    if i < 16 {
-        Verdict::Refused(5, i + 1)
-    } else {
-        Verdict::Taken
-    }
+    refusal(i < 16, 5, i + 1)
 }
 
 fn periods_verdict(n: usize, t: &[u16; 16]) -> Verdict
     ensures { λ r. ⌜ r ≡ periodsVerdict n (now (t .entry)) ⌝ }
 {
     let i = falling_row(n, t);
-    let m = rows(n);
-    if i < m {
-        Verdict::Refused(6, i + 1)
-    } else {
-        Verdict::Taken
-    }
+    refusal(i < rows(n), 6, i + 1)
 }
 
 fn and_then(v: Verdict, w: Verdict) -> Verdict
@@ -192,11 +188,7 @@ fn head(s: &[u8]) -> Verdict
     let field = wide(big(&s[1..3]));
     let n = wide(byte(s, 3));
     let fits = both(field == s.len() - 3, field == 1 + 6 * n);
-    if fits {
-        Verdict::Taken
-    } else {
-        Verdict::Refused(3, 0)
-    }
+    refusal(!fits, 3, 0)
 }
 
 fn wide(x: u16) -> usize

@@ -1,5 +1,4 @@
 -- `table::all_zero` meets its contract. Assumes nothing.
-use Prim.Native.Nat.{_-_}
 use borrow.Author.Needs.{needs}
 use Rattle.table.proofs.all_zero.Statement.{statement}
 use Rattle.table.proofs.all_zero.Tie as tie

@@ -1,5 +1,4 @@
 -- `table::and_then` meets its contract. Assumes nothing.
-use Prim.Native.Nat.{_-_}
 use borrow.Author.Needs.{needs}
 use Rattle.table.proofs.and_then.Statement.{statement}
 use Rattle.table.proofs.and_then.Tie as tie

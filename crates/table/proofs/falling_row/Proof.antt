@@ -1,9 +1,7 @@
 -- `table::falling_row` meets its contract. Assumes nothing.
 use mathlib.Core.Path.{sym}
 use borrow.Author.Tests.{le-leb, lt-leb}
-use Rattle.seq.specs.Places.{at}
 use Rattle.seq.proofs.Places.{lead-most, lead-miss, lead-hit}
-use Rattle.table.specs.Verdicts.{taken}
 use Rattle.table.specs.Form.{rising, fallingRow}
 use Prim.Native.Nat.{_≤_, _<_, _-_, min}
 use native.Mathlib.Omega.{arith}

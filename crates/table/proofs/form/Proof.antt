@@ -1,6 +1,5 @@
 -- `table::form` meets its contract. Assumes nothing.
 use Rattle.table.specs.Form.{formVerdict}
-use Prim.Native.Nat.{_-_}
 use borrow.Author.Needs.{needs}
 use Rattle.table.proofs.form.Statement.{statement}
 use Rattle.table.proofs.form.Tie as tie

@@ -1,13 +1,11 @@
 -- `table::head` meets its contract. Assumes nothing.
-use mathlib.Core.Path.{_≡_, sym, _∙_}
+use mathlib.Core.Path.{_≡_, _∙_}
 use borrow.Author.Tests.{eq-eqb, ne-eqb, lt-ltb, le-ltb}
 use lib.ListN.{length}
 use Rattle.seq.specs.Places.{at}
 use Rattle.seq.specs.Bytes.{bigAt}
 use Rattle.seq.proofs.Bytes.{big-part}
-use Rattle.table.specs.Verdicts.{taken}
 use Rattle.table.specs.Record.{headVerdict}
-use Prim.Native.Nat.{_-_}
 use native.Mathlib.Omega.{arith}
 use borrow.Author.Needs.{needs}
 use Rattle.table.proofs.head.Statement.{statement}
@@ -60,6 +58,9 @@ add-both c = search needs
 both-requires : tie.Need-both-requires
 both-requires c κs = search needs
 
+refusal-requires : tie.Need-refusal-requires
+refusal-requires c κs = search needs
+
 returns-3 : tie.Need-returns-3
 unfolding headVerdict
 returns-3 c =
@@ -67,18 +68,7 @@ returns-3 c =
     let v = c .before .before .before .before .before .before .before .before .byte .ensures .0 in
     let n : c .before .before .wide2 .result ≡ at s 3 = c .before .before .wide2 .ensures ∙ c .before .before .before .byte2 .ensures .0 in
     let f : c .before .before .before .before .wide .result ≡ bigAt s 1 = c .before .before .before .before .wide .ensures ∙ c .before .before .before .before .before .big .ensures ∙ big-part 2 1 s 0 (omega arith) in
-    let e = sym (c .before .both .ensures) ∙ c .if3 .taken in
-    rw (le-ltb (length s) 4 (omega arith), eq-eqb (at s 0) 1 (rw v at (c .before .before .before .before .before .before .before .if2 .left)), ← n, ← f, e)
-
-returns-4 : tie.Need-returns-4
-unfolding headVerdict
-returns-4 c =
-    let s = c .before .before .before .before .before .before .before .before .before .before .before .args .s .now in
-    let v = c .before .before .before .before .before .before .before .before .byte .ensures .0 in
-    let n : c .before .before .wide2 .result ≡ at s 3 = c .before .before .wide2 .ensures ∙ c .before .before .before .byte2 .ensures .0 in
-    let f : c .before .before .before .before .wide .result ≡ bigAt s 1 = c .before .before .before .before .wide .ensures ∙ c .before .before .before .before .before .big .ensures ∙ big-part 2 1 s 0 (omega arith) in
-    let e = sym (c .before .both .ensures) ∙ c .if3 .left in
-    rw (le-ltb (length s) 4 (omega arith), eq-eqb (at s 0) 1 (rw v at (c .before .before .before .before .before .before .before .if2 .left)), ← n, ← f, e)
+    rw (le-ltb (length s) 4 (omega arith), eq-eqb (at s 0) 1 (rw v at (c .before .before .before .before .before .before .before .if2 .left)), c .refusal .ensures, c .before .both .ensures, n, f)
 
 pub head-spec : {M : Type 1} → statement M
 head-spec =
@@ -98,5 +88,5 @@ head-spec =
     mul-both
     add-both
     both-requires
-    returns-3
-    returns-4)
+    refusal-requires
+    returns-3)

@@ -1,5 +1,4 @@
 -- `table::in_order` meets its contract. Assumes nothing.
-use Prim.Native.Nat.{_-_}
 use borrow.Author.Needs.{needs}
 use Rattle.table.proofs.in_order.Statement.{statement}
 use Rattle.table.proofs.in_order.Tie as tie

@@ -1,6 +1,4 @@
 -- `table::is_sound` meets its contract. Assumes nothing.
-use Rattle.table.specs.Verdicts.{taken}
-use Prim.Native.Nat.{_-_}
 use borrow.Author.Needs.{needs}
 use Rattle.table.proofs.is_sound.Statement.{statement}
 use Rattle.table.proofs.is_sound.Tie as tie

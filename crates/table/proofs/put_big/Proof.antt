@@ -1,5 +1,4 @@
 -- `table::put_big` meets its contract. Assumes nothing.
-use Prim.Native.Nat.{_-_}
 use borrow.Author.Needs.{needs}
 use native.Mathlib.Numerals.{add-one}
 use Rattle.table.proofs.put_big.Statement.{statement}

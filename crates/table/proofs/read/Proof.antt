@@ -1,9 +1,7 @@
 -- `table::read` meets its contract. Assumes nothing.
 use mathlib.Core.Path.{sym, _∙_}
-use Rattle.seq.specs.Places.{at}
 use Rattle.table.proofs.Record.{head-taken}
 use Rattle.table.specs.Record.{readVerdict, readOf}
-use Prim.Native.Nat.{_-_}
 use native.Mathlib.Omega.{arith}
 use borrow.Author.Needs.{needs}
 use Rattle.table.proofs.read.Statement.{statement}

@@ -1,6 +1,5 @@
 -- `table::row_in` meets its contract. Assumes nothing.
 use Rattle.seq.proofs.Bytes.{big-part}
-use Prim.Native.Nat.{_-_}
 use native.Mathlib.Omega.{arith}
 use borrow.Author.Needs.{needs}
 use Rattle.table.proofs.row_in.Statement.{statement}

@@ -2,7 +2,6 @@
 use mathlib.Core.Path.{sym, _∙_}
 use borrow.Author.Tests.{not-true, not-false}
 use Rattle.seq.proofs.Places.{lead-most, lead-miss, lead-hit}
-use Rattle.table.specs.Verdicts.{taken}
 use Rattle.table.specs.Form.{sound, unsoundRow}
 use Prim.Native.Nat.{_≤_, _-_}
 use native.Mathlib.Omega.{arith}

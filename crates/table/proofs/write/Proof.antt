@@ -5,9 +5,7 @@ use lib.ListN.{length}
 use lib.Seq.{length-sets}
 use Rattle.table.proofs.Record.{record-put}
 use Rattle.table.proofs.WellFormed.{taken-few}
-use Rattle.table.specs.Verdicts.{taken}
 use Rattle.table.specs.Record.{headBytes, writeVerdict, writtenOf, bufferOf}
-use Prim.Native.Nat.{_-_}
 use native.Mathlib.Omega.{arith}
 use borrow.Author.Needs.{needs}
 use Rattle.table.proofs.write.Statement.{statement}
