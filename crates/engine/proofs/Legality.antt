@@ -1,6 +1,6 @@
 -- What a legal state is known by, and the tests that tell it.
-use mathlib.Core.Path.{_≡_, refl, sym, ap}
-use mathlib.Core.Bool.{Bool, true, false, cond, _&&_, and-assoc}
+use mathlib.Core.Path.{_≡_, refl, sym}
+use mathlib.Core.Bool.{Bool, true, false, cond, _&&_}
 use Prim.Native.Nat.{ℕ, suc, _+_, _-_, _≤_, _<_}
 use native.Mathlib.Omega.{arith}
 use lib.Dec.{eqb, leb}
@@ -55,19 +55,18 @@ module _ (s : State) where
 
   -- the tests in the code's order
   pub legal-tested :
-      {m : ℕ} {a y z b q x o : Bool}
+      {m : ℕ} {a y q b z x o : Bool}
       → m ≡ ran s
       → a ≡ tableLegal s && rowsKept (s .n) (s .c) (s .d) (s .k) (s .left) (s .counter) && latesKept (s .n) m (s .late)
       → y ≡ eqb (s .hard + s .given + s .empty + s .lost) m
-      → z ≡ clockLegal s
-      → b ≡ y && z
       → q ≡ proper (s .count) (s .names) (s .sizes)
-      → x ≡ a && b
+      → b ≡ a && y
+      → z ≡ clockLegal s
+      → x ≡ b && z
       → o ≡ x && q
       → o ≡ legal s
   unfolding legal
-  legal-tested {a = a} {y = y} {z = z} {q = q} e-m e-a e-y e-z e-b e-q e-x e-o =
-      rw (← e-m, ← e-a, ← e-y, ← e-z, ← e-q, e-o, e-x, e-b) (ap (λ (w : Bool). w && q) (sym (and-assoc a y z)))
+  legal-tested e-m e-a e-y e-q e-b e-z e-x e-o = rw (← e-m, ← e-a, ← e-y, ← e-q, ← e-b, ← e-z, ← e-x, ← e-o)
 
 -- the tallies taken off one by one
 pub tallies-tested : (ran a b c d : ℕ) → a ≤ ran → b ≤ ran - a → c ≤ ran - a - b → eqb (ran - a - b - c) d ≡ eqb (a + b + c + d) ran

@@ -2,3 +2,4 @@ pub mod States
 pub mod Legal
 pub mod Slot
 pub mod Calls
+pub mod Start

@@ -7,7 +7,7 @@ ghost use lib.Dec.{eqb, leb};
 ghost use lib.Count.{ones};
 ghost use Rattle.table.specs.Verdicts.{taken};
 ghost use Rattle.table.specs.Form.{formVerdict};
-ghost use Rattle.rows.specs.Rows.{rowsKept, latesKept};
+ghost use Rattle.rows.specs.Rows.{rowsKept, latesKept, up};
 ghost use Rattle.engine.specs.declared.Use.the-variants.{Empty};
 ghost use Rattle.engine.specs.States.{lastSlot};
 ghost use Rattle.engine.specs.Slot.{chosen, isGive, chosenUse, usedFor, rowServed, isHard, isGiven, isEmpty, isLost, slotOf};
@@ -274,6 +274,12 @@ fn refused(u: u8) -> Answer
     }
 }
 
+fn tally(count: &mut u64, on: bool)
+    ensures { λ _. ⌜ now (count .exit) ≡ up on (now (count .entry)) ⌝ }
+{
+    *count = rows::count_up(*count, on);
+}
+
 // 11, 10 or 0.
 fn slot_refusal(ok: bool, next: u64) -> u8
     ensures { λ r. ⌜ r ≡ cond ok (cond (eqb next (suc lastSlot)) 10 0) 11 ⌝ }
@@ -307,12 +313,10 @@ pub fn slot(s: State, lost: bool) -> Slotted
     let next = r.next;
     let ran = before(next);
     let a = rows_legal(n, ran, &r.c, &r.t, &r.d, &r.k, &r.left, &r.counter, &r.late);
-    let b = both(
-        tallies_legal(ran, r.hard, r.given, r.empty, r.lost),
-        clock_legal(next),
-    );
+    let b = tallies_legal(ran, r.hard, r.given, r.empty, r.lost);
     let q = queue::is_proper(r.count, &r.names, &r.sizes);
-    let u = slot_refusal(both(both(a, b), q), next);
+    let ok = both(both(both(a, b), clock_legal(next)), q);
+    let u = slot_refusal(ok, next);
     let mut answer = refused(u);
     if u == 0 {
         let k = r.k;
@@ -337,14 +341,10 @@ pub fn slot(s: State, lost: bool) -> Slotted
         let w = rows::late_word(&r.left, marks.end);
         rows::drop_late(&mut r.left, w);
         rows::count_late(&mut r.late, w);
-        let hard = rows::count_up(r.hard, is_hard(used));
-        r.hard = hard;
-        let given = rows::count_up(r.given, on);
-        r.given = given;
-        let empty = rows::count_up(r.empty, is_empty(used));
-        r.empty = empty;
-        let gone = rows::count_up(r.lost, is_lost(used));
-        r.lost = gone;
+        tally(&mut r.hard, is_hard(used));
+        tally(&mut r.given, on);
+        tally(&mut r.empty, is_empty(used));
+        tally(&mut r.lost, is_lost(used));
         r.next = next + 1;
         answer = answered(used, w);
     }
@@ -358,26 +358,15 @@ pub fn request(s: State, name: u16, size: u16) -> Requested
     ensures { λ r. ⌜ r ≡ requestOf s name size ⌝ }
 {
     let mut r = s;
+    let n = r.n;
     let next = r.next;
     let ran = before(next);
-    let a = rows_legal(
-        r.n,
-        ran,
-        &r.c,
-        &r.t,
-        &r.d,
-        &r.k,
-        &r.left,
-        &r.counter,
-        &r.late,
-    );
-    let b = both(
-        tallies_legal(ran, r.hard, r.given, r.empty, r.lost),
-        clock_legal(next),
-    );
+    let a = rows_legal(n, ran, &r.c, &r.t, &r.d, &r.k, &r.left, &r.counter, &r.late);
+    let b = tallies_legal(ran, r.hard, r.given, r.empty, r.lost);
     let q = queue::is_proper(r.count, &r.names, &r.sizes);
+    let ok = both(both(both(a, b), clock_legal(next)), q);
     let count = r.count;
-    let u = request_refusal(both(both(a, b), q), size, count);
+    let u = request_refusal(ok, size, count);
     if u == 0 {
         queue::put(&mut r.names, count, name);
         queue::put(&mut r.sizes, count, size);
@@ -392,25 +381,13 @@ pub fn request(s: State, name: u16, size: u16) -> Requested
 pub fn late_total(s: State) -> Summed
     ensures { λ r. ⌜ r ≡ lateTotalOf s ⌝ }
 {
+    let n = s.n;
     let next = s.next;
     let ran = before(next);
-    let a = rows_legal(
-        s.n,
-        ran,
-        &s.c,
-        &s.t,
-        &s.d,
-        &s.k,
-        &s.left,
-        &s.counter,
-        &s.late,
-    );
-    let b = both(
-        tallies_legal(ran, s.hard, s.given, s.empty, s.lost),
-        clock_legal(next),
-    );
+    let a = rows_legal(n, ran, &s.c, &s.t, &s.d, &s.k, &s.left, &s.counter, &s.late);
+    let b = tallies_legal(ran, s.hard, s.given, s.empty, s.lost);
     let q = queue::is_proper(s.count, &s.names, &s.sizes);
-    let ok = both(both(a, b), q);
+    let ok = both(both(both(a, b), clock_legal(next)), q);
     if !ok {
         return Summed {
             number: 11,

@@ -1,5 +1,5 @@
 -- `engine::request` meets its contract. Assumes nothing.
-use Rattle.engine.specs.Calls.{requestOf}
+use Rattle.engine.specs.Calls.{requestRefusal, requestOf}
 use Rattle.engine.proofs.Ran.{joined-is}
 use lib.ListN.{length}
 use Prim.Native.Nat.{_-_}
@@ -17,56 +17,60 @@ names-long c = search needs
 sizes-long : (c : tie.Start) → length (c .args .s .sizes) ≡ 32
 sizes-long c = search needs
 
+tested : (c : tie.After-request-refusal) → let v = c .before .before .before .before .before .before .before .before .before .before .before .before .before .before .before .before .before .before .before .before .args in c .request-refusal .result ≡ requestRefusal (v .s) (v .name) (v .size)
+tested c =
+    let x1 = c .before in
+    let x2 = x1 .before in
+    let x3 = x2 .before in
+    let x4 = x3 .before in
+    let x5 = x4 .before in
+    let x9 = x5 .before .before .before .before in
+    let x10 = x9 .before in
+    let x19 = x10 .before .before .before .before .before .before .before .before .before in
+    let x20 = x19 .before in
+    let v = x20 .args in
+    request-tested (v .s) (v .name) (v .size)
+    (legal-tested (v .s) (x19 .before2 .ensures) (x10 .rows-legal .ensures) (x9 .tallies-legal .ensures) (x5 .is-proper .ensures) (x4 .both .ensures) (x3 .clock-legal .ensures) (x2 .both2 .ensures) (x1 .both3 .ensures))
+    (c .request-refusal .ensures)
+
 before-requires : tie.Need-before-requires
-before-requires c κs = search needs
+before-requires c κs = tt
 
 rows-legal-requires : tie.Need-rows-legal-requires
-rows-legal-requires c κs = search needs
+rows-legal-requires c κs = tt
 
 tallies-legal-requires : tie.Need-tallies-legal-requires
-tallies-legal-requires c κs = search needs
-
-clock-legal-requires : tie.Need-clock-legal-requires
-clock-legal-requires c κs = search needs
-
-both-requires : tie.Need-both-requires
-both-requires c κs = search needs
+tallies-legal-requires c κs = tt
 
 is-proper-requires : tie.Need-is-proper-requires
-is-proper-requires c κs = search needs
+is-proper-requires c κs = tt
+
+both-requires : tie.Need-both-requires
+both-requires c κs = tt
+
+clock-legal-requires : tie.Need-clock-legal-requires
+clock-legal-requires c κs = tt
 
 both-requires-2 : tie.Need-both-requires-2
-both-requires-2 c κs = search needs
+both-requires-2 c κs = tt
 
 both-requires-3 : tie.Need-both-requires-3
-both-requires-3 c κs = search needs
+both-requires-3 c κs = tt
 
 request-refusal-requires : tie.Need-request-refusal-requires
-request-refusal-requires c κs = search needs
+request-refusal-requires c κs = tt
 
 put-requires : tie.Need-put-requires
-put-requires c κs = search needs
+put-requires c κs = tt
 
 put-requires-2 : tie.Need-put-requires-2
-put-requires-2 c κs = search needs
+put-requires-2 c κs = tt
 
 add-r : tie.Need-add-r
 add-r c =
     let x4 = c .before .before .before .before in
     let x5 = x4 .before in
-    let x6 = x5 .before in
-    let x7 = x6 .before in
-    let x8 = x7 .before in
-    let x12 = x8 .before .before .before .before in
-    let x13 = x12 .before in
-    let x14 = x13 .before in
-    let x15 = x14 .before in
-    let x24 = x15 .before .before .before .before .before .before .before .before .before in
-    let x25 = x24 .before in
-    let v = x25 .args in
-    let e = request-tested (v .s) (v .name) (v .size) (legal-tested (v .s) (x24 .before2 .ensures) (x15 .rows-legal .ensures) (x14 .tallies-legal .ensures) (x13 .clock-legal .ensures) (x12 .both .ensures) (x8 .is-proper .ensures) (x7 .both2 .ensures) (x6 .both3 .ensures)) (x5 .request-refusal .ensures) in
-    let z = sym e ∙ x4 .if1 .taken in
-    let g = request-legal (v .s) (v .name) (v .size) z in
+    let g = request-legal _ _ _ (sym (tested x5) ∙ x4 .if1 .taken) in
     let f = g .2 in
     record { fits = omega arith }
 
@@ -76,36 +80,16 @@ returns c =
     let x2 = c .before .before in
     let x4 = x2 .before .before in
     let x5 = x4 .before in
-    let x6 = x5 .before in
-    let x7 = x6 .before in
-    let x8 = x7 .before in
-    let x12 = x8 .before .before .before .before in
-    let x13 = x12 .before in
-    let x14 = x13 .before in
-    let x15 = x14 .before in
-    let x24 = x15 .before .before .before .before .before .before .before .before .before in
-    let x25 = x24 .before in
+    let x25 = x5 .before .before .before .before .before .before .before .before .before .before .before .before .before .before .before .before .before .before .before .before in
     let v = x25 .args in
-    let e = request-tested (v .s) (v .name) (v .size) (legal-tested (v .s) (x24 .before2 .ensures) (x15 .rows-legal .ensures) (x14 .tallies-legal .ensures) (x13 .clock-legal .ensures) (x12 .both .ensures) (x8 .is-proper .ensures) (x7 .both2 .ensures) (x6 .both3 .ensures)) (x5 .request-refusal .ensures) in
-    let z = sym e ∙ x4 .if1 .taken in
+    let z = sym (tested x5) ∙ x4 .if1 .taken in
     let g = request-legal (v .s) (v .name) (v .size) z in
     rw (x4 .if1 .taken, z, joined-is (v .s) (g .0) (names-long x25) (sizes-long x25) (v .name) (v .size) (g .1) (g .2) (x2 .put .ensures) (c .put2 .ensures))
 
 returns-2 : tie.Need-returns-2
 unfolding requestOf
 returns-2 c =
-    let x1 = c .before in
-    let x2 = x1 .before in
-    let x3 = x2 .before in
-    let x4 = x3 .before in
-    let x8 = x4 .before .before .before .before in
-    let x9 = x8 .before in
-    let x10 = x9 .before in
-    let x11 = x10 .before in
-    let x20 = x11 .before .before .before .before .before .before .before .before .before in
-    let x21 = x20 .before in
-    let v = x21 .args in
-    let e = request-tested (v .s) (v .name) (v .size) (legal-tested (v .s) (x20 .before2 .ensures) (x11 .rows-legal .ensures) (x10 .tallies-legal .ensures) (x9 .clock-legal .ensures) (x8 .both .ensures) (x4 .is-proper .ensures) (x3 .both2 .ensures) (x2 .both3 .ensures)) (x1 .request-refusal .ensures) in
+    let e = tested (c .before) in
     rw (ne-eqb _ 0 (rw e at (c .if1 .left)), e)
 
 pub request-spec : {M : Type 1} → statement M
@@ -115,9 +99,9 @@ request-spec =
     before-requires
     rows-legal-requires
     tallies-legal-requires
-    clock-legal-requires
-    both-requires
     is-proper-requires
+    both-requires
+    clock-legal-requires
     both-requires-2
     both-requires-3
     request-refusal-requires

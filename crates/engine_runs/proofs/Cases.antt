@@ -1,0 +1,29 @@
+-- The cases hold: each is computed.
+use mathlib.Core.Path.{refl}
+use lib.Count.{ones}
+use Rattle.seq.specs.Places.{tab, over, lead, every}
+use Rattle.seq.specs.Words.{word, bit}
+use Rattle.table.specs.Form.{sound, unsoundRow, fallingRow, countVerdict, rowsVerdict, periodsVerdict, formVerdict}
+use Rattle.rows.specs.Rows.{idle, reloaded, dueWord, endWord, released, noneZero, charged, worked, lateWord, dropped, counted, total, rowsKept, latesKept}
+use Rattle.queue.specs.Queue.{served, namesOf, sizesOf, waiting, proper}
+use Rattle.engine.specs.States.{with-figures}
+use Rattle.engine.specs.Legal.{legal}
+use Rattle.engine.specs.Slot.{chosen, leftReleased, leftUsed, lates, leftJudged, counter₁, left₁, choiceOf, useOf, lateOf, settled, answered, slotRefusal, slotOf}
+use Rattle.engine.specs.Calls.{joined, requestRefusal, requestOf, lateTotalOf}
+use Rattle.engine.specs.Start.{begun}
+use Rattle.engine_runs.specs.Runs.{run}
+use Rattle.engine_runs.specs.Cases.{Cases}
+
+pub cases : Cases
+unfolding run begun slotOf slotRefusal requestOf requestRefusal joined lateTotalOf legal settled answered lateOf useOf choiceOf left₁ counter₁ leftJudged lates leftUsed leftReleased chosen with-figures served namesOf sizesOf waiting proper idle reloaded dueWord endWord released noneZero charged worked lateWord dropped counted total rowsKept latesKept sound unsoundRow fallingRow countVerdict rowsVerdict periodsVerdict formVerdict tab over lead every word bit ones
+cases =
+    record {
+      listing-says = refl;
+      listing-tally = refl;
+      listing-total = refl;
+      tight-says = refl;
+      short-says = refl;
+      short-total = refl;
+      long-total = refl;
+      full-says = refl;
+    }
