@@ -1,9 +1,23 @@
 // Lists, words and bytes: what several crates need and none of them owns.
 
 ghost use mathlib.Core.Path.{_≡_};
+ghost use mathlib.Core.Bool.{_&&_, _||_};
 ghost use Prim.Native.Nat.{_-_, _<_};
 ghost use Rattle.seq.specs.Places.{at};
 ghost use Rattle.seq.specs.Bytes.{bigAt};
+
+// Both tests are made, so that a chain of them has no branch and no fact to prove.
+pub fn both(a: bool, b: bool) -> bool
+    ensures { λ r. ⌜ r ≡ (a && b) ⌝ }
+{
+    if a { b } else { false }
+}
+
+pub fn either(a: bool, b: bool) -> bool
+    ensures { λ r. ⌜ r ≡ (a || b) ⌝ }
+{
+    if a { true } else { b }
+}
 
 fn wide(x: u8) -> u16
     ensures { λ r. ⌜ (r ≡ x) × (r < 256) ⌝ }
