@@ -1,0 +1,5 @@
+pub mod Trail
+pub mod Choice
+pub mod Lane
+pub mod Engine
+pub mod Starts

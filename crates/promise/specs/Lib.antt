@@ -1,0 +1,5 @@
+pub mod Runs
+pub mod History
+pub mod Starts
+pub mod Forced
+pub mod Demands
