@@ -8,12 +8,13 @@ use native.Mathlib.Omega.{arith}
 use lib.Dec.{eqb, ltb}
 use borrow.Author.Tests.{eq-eqb, ne-eqb, ltb-true, ltb-false}
 use Rattle.seq.specs.Places.{flag, at}
-use Rattle.seq.proofs.Places.{both-true, every-at}
+use Rattle.seq.proofs.Places.{both-true}
 use Rattle.law.specs.Sums.{sum}
 use Rattle.law.specs.Level.{backlog}
 use Rattle.law.proofs.Sums.{sum-add, sum-eq, sum-zero, term-le}
 use Rattle.rows.specs.Rows.{rowsOf, idle, noneZero}
-use Rattle.rows.proofs.Idle.{idle-miss, idle-hit}
+use Rattle.rows.proofs.Idle.{idle-before, idle-stop}
+use Rattle.rows.proofs.Points.{none-zero-at}
 use Rattle.engine.specs.declared.Choice.the-variants.{Give, Back, Idle}
 use Rattle.engine.specs.declared.Choice.the-variants as choice
 use Rattle.engine.specs.declared.Use.{Use}
@@ -21,25 +22,17 @@ use Rattle.engine.specs.declared.Use.the-variants.{Hard, Given, Empty, Lost}
 use Rattle.engine.specs.Slot.{chosen, isGive, usedFor, rowServed}
 use Rattle.promise.specs.History.{isRow}
 
--- the rows before the first with work left have none, and that one has
-pub idle-zero : (n : ℕ) (left : List ℕ) (i : ℕ) → i < rowsOf n → i < idle n left → at left i ≡ 0
-idle-zero n left i r p =
-    elim (ℕ-discrete (at left i) 0) [ yes e ↦ e | no e ↦ absurd (omega (arith, idle-hit n left i r e (omega arith))) ]
-
-pub idle-works : (n : ℕ) (left : List ℕ) → idle n left < rowsOf n → 1 ≤ at left (idle n left)
-idle-works n left r =
-    elim (ℕ-discrete (at left (idle n left)) 0) [
-      | yes e ↦ absurd (omega (arith, idle-miss n left (idle n left) r e (omega arith)))
-      | no e ↦ omega arith
-    ]
+-- the first row with work left has some
+idle-works : (n : ℕ) (left : List ℕ) → idle n left < rowsOf n → 1 ≤ at left (idle n left)
+idle-works n left r = let z = idle-stop n left r in omega arith
 
 -- the work left up to row i is none just where i comes before the first with work left
-module _ (n : ℕ) (left : List ℕ) (i : ℕ) (r : i < rowsOf n) where
+module _ (n : ℕ) (left : List ℕ) (i : ℕ) where
   pub low : i < idle n left → backlog (at left) i ≡ 0
-  low p = sum-zero (at left) (suc i) (λ h q. idle-zero n left h (omega arith) (omega arith))
+  low p = sum-zero (at left) (suc i) (λ h q. idle-before n left h (omega arith))
 
-  pub high : idle n left ≤ i → 1 ≤ backlog (at left) i
-  high p = omega (arith, idle-works n left (omega arith), term-le (at left) (suc i) (idle n left) (omega arith))
+  pub high : i < rowsOf n → idle n left ≤ i → 1 ≤ backlog (at left) i
+  high r p = omega (arith, idle-works n left (omega arith), term-le (at left) (suc i) (idle n left) (omega arith))
 
 -- each use with its reason, and whether it is charged to the counters
 pub data View (n count : ℕ) (left counter : List ℕ) (lost : Bool) : Use → Bool → Type 0 where
@@ -91,10 +84,6 @@ module _ {n count : ℕ} {left counter : List ℕ} {lost : Bool} where
   places (is-back e f) i r = ne-eqb i 16 (λ z. omega arith)
   places (is-empty e) i r = ne-eqb i 16 (λ z. omega arith)
 
-none-zero : (n : ℕ) (counter : List ℕ) (i : ℕ) → noneZero n counter ≡ true → i < rowsOf n → 1 ≤ at counter i
-unfolding noneZero
-none-zero n counter i e r = ltb-true _ _ (every-at (rowsOf n) _ e i r)
-
 -- v is the work left after the use
 module _ (n : ℕ) (left : List ℕ) (i : ℕ) (r : i < rowsOf n) (v : ℕ → ℕ) where
   used-sum : (u : Use) → ((h : ℕ) → h < suc i → v h + flag (isRow h u) ≡ at left h)
@@ -107,10 +96,10 @@ module _ (n : ℕ) (left : List ℕ) (i : ℕ) (r : i < rowsOf n) (v : ℕ → �
       → ((h : ℕ) → h < suc i → v h + flag (isRow h u) ≡ at left h)
       → 1 ≤ backlog v i → suc (backlog v i + (at counter i - flag on)) ≤ backlog (at left) i + at counter i
   took {u = u} (is-lost e) f g b = absurd (omega (arith, used-sum u g, f e))
-  took {counter = counter} {u = u} (is-given e q) f g b = omega (arith, used-sum u g, none-zero n counter i q r)
+  took {counter = counter} {u = u} (is-given e q) f g b = omega (arith, used-sum u g, none-zero-at n counter q i r)
   took {u = u} (is-hard {j} e q) f g b =
       elim (decLt i j) [
-        | yes a ↦ absurd (omega (arith, used-sum u g, low n left i r (omega arith)))
+        | yes a ↦ absurd (omega (arith, used-sum u g, low n left i (omega arith)))
         | no a ↦
             omega (
               arith,
@@ -119,5 +108,5 @@ module _ (n : ℕ) (left : List ℕ) (i : ℕ) (r : i < rowsOf n) (v : ℕ → �
               ap flag (eq-eqb (suc j) (suc j) refl),
             )
       ]
-  took {u = u} (is-back e q) f g b = absurd (omega (arith, used-sum u g, low n left i r (omega arith)))
-  took {u = u} (is-empty q) f g b = absurd (omega (arith, used-sum u g, low n left i r (omega arith)))
+  took {u = u} (is-back e q) f g b = absurd (omega (arith, used-sum u g, low n left i (omega arith)))
+  took {u = u} (is-empty q) f g b = absurd (omega (arith, used-sum u g, low n left i (omega arith)))

@@ -3,3 +3,5 @@ pub mod Choice
 pub mod Lane
 pub mod Engine
 pub mod Starts
+pub mod Legal
+pub mod Counts

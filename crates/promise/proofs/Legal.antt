@@ -1,0 +1,267 @@
+-- A legal state stays legal, whatever is called, and the start is legal.
+use mathlib.Core.Path.{_≡_, refl, ap, sym, _∙_}
+use mathlib.Core.List.{List, [], _∷_}
+use mathlib.Core.Bool.{Bool, true, false, cond, _&&_, not, true≢false}
+use Prim.Native.Nat.{ℕ, zero, suc, _+_, _-_, _≤_, _<_, min}
+use native.Mathlib.Omega.{arith}
+use native.Mathlib.Numerals.{add-one}
+use native.Mathlib.Decide.{decLt}
+use lib.Dec.{eqb, ltb, leb, eqb·suc-zero}
+use lib.ListN.{length, getD, replicate}
+use borrow.Author.Tests.{eq-eqb, le-leb, lt-ltb, eqb-true, eqb-false, leb-true, leb-false, ltb-true, le-ltb}
+use Rattle.seq.specs.Places.{flag, at, tab, every}
+use Rattle.seq.specs.Words.{bit}
+use Rattle.seq.proofs.Places.{both-true, every-at, every-true, tab-length, tab-at}
+use Rattle.law.proofs.Work.{allowance-small}
+use Rattle.table.specs.declared.Table.{Table}
+use Rattle.table.specs.declared.Verdict.{Verdict}
+use Rattle.table.specs.declared.Verdict.the-variants.{Taken, Refused}
+use Rattle.table.specs.Verdicts.{taken}
+use Rattle.table.specs.Form.{formVerdict, formOf}
+use Rattle.rows.specs.Rows.{dueWord, charged, rowsKept, latesKept}
+use Rattle.rows.proofs.Points.{late-past}
+use Rattle.rows.proofs.Kept.{kept-bounds, bounds-kept, reloaded-kept, charged-kept, released-kept, worked-kept, dropped-kept, lates-say, lates-kept}
+use Rattle.queue.specs.Queue.{Request, noRequest, asked, served, waiting, namesOf, sizesOf, placeProper, proper}
+use Rattle.queue.proofs.Laid.{Sized, Laid, laid-proper, laid-served, laid-asked, laid-none}
+use Rattle.engine.specs.declared.State.{State}
+use Rattle.engine.specs.declared.Use.{Use}
+use Rattle.engine.specs.declared.Use.the-variants.{Hard, Given, Empty, Lost}
+use Rattle.engine.specs.States.{lastSlot, queue, tally, with-figures}
+use Rattle.engine.specs.Legal.{ran, tableLegal, talliesLegal, clockLegal, legal}
+use Rattle.engine.specs.Slot.{
+  isGive,
+  rowServed,
+  isHard,
+  isGiven,
+  isEmpty,
+  isLost,
+  leftReleased,
+  leftUsed,
+  lates,
+  leftJudged,
+  counter₁,
+  choiceOf,
+  useOf,
+  lateOf,
+  settled,
+  slotRefusal,
+  slotOf,
+}
+use Rattle.engine.specs.Calls.{requestRefusal, joined, requestOf}
+use Rattle.promise.specs.Runs.{Call, slot, request, step, runOf}
+use Rattle.promise.specs.Starts.{Accepted, begin}
+use Rattle.promise.specs.Demands.{LegalStays}
+use Rattle.promise.proofs.Trail.{slot-run, slot-refused, request-run, request-refused}
+use Rattle.promise.proofs.Starts.{Formed, formed}
+use Rattle.promise.proofs.Engine.{at-zeros}
+
+-- the parts of the test
+record Parts (s : State) : Type 0 where
+  table : formVerdict (s .n) (s .c) (s .t) (s .d) ≡ Taken
+  rows : rowsKept (s .n) (s .c) (s .d) (s .k) (s .left) (s .counter) ≡ true
+  lates : latesKept (s .n) (ran s) (s .late) ≡ true
+  tallies : s .hard + s .given + s .empty + s .lost ≡ ran s
+  least : 1 ≤ s .next
+  most : s .next ≤ suc lastSlot
+  waits : proper (s .count) (s .names) (s .sizes) ≡ true
+
+taken-is : (v : Verdict) → taken v true false ≡ true → v ≡ Taken
+taken-is Taken e = refl
+taken-is (Refused number row) e = cc
+
+parts : (s : State) → legal s ≡ true → Parts s
+unfolding legal
+parts s e =
+    let a = both-true _ _ e in
+    let b = both-true _ _ (a .0) in
+    let c = both-true _ _ (b .0) in
+    let d = both-true _ _ (c .0) in
+    let f = both-true _ _ (d .0) in
+    let g = both-true _ _ (b .1) in
+    record {
+      table = taken-is _ (f .0);
+      rows = f .1;
+      lates = d .1;
+      tallies = eqb-true _ _ (c .1);
+      least = leb-true _ _ (g .0);
+      most = leb-true _ _ (g .1);
+      waits = a .1;
+    }
+
+whole : (s : State) → Parts s → legal s ≡ true
+unfolding legal
+whole s p =
+    rw (p .table, p .rows, p .lates, eq-eqb _ _ (p .tallies), le-leb _ _ (p .least), le-leb _ _ (p .most), p .waits)
+
+-- what the test says of the tallies, and of late counts past the rows
+pub tallies-legal : (s : State) → legal s ≡ true → s .hard + s .given + s .empty + s .lost ≡ ran s
+tallies-legal s l = parts s l .tallies
+
+pub none-late-past : (s : State) → legal s ≡ true → (i : ℕ) → s .n ≤ i → i < 16 → at (s .late) i ≡ 0
+none-late-past s l i g h = omega (arith, rw (le-ltb i (s .n) g) at (lates-say (s .n) (ran s) (s .late) (parts s l .lates) i h))
+
+-- a list laid out is a legal queue
+laid-out : (l : List Request) → length l ≤ 32 → Sized l → proper (length l) (namesOf l) (sizesOf l) ≡ true
+laid-out l m g = laid-proper {l = l} (record { count-is = refl; names-is = refl; sizes-is = refl; most = m; sized = g })
+
+-- what waits in a legal state, laid out
+module _ (s : State) (e : proper (s .count) (s .names) (s .sizes) ≡ true) where
+  laid : Laid (length (queue s)) (namesOf (queue s)) (sizesOf (queue s)) (queue s)
+  unfolding waiting proper
+  laid =
+      let n : length (queue s) ≡ min (s .count) 32 = tab-length (min (s .count) 32) _ in
+      record {
+        count-is = refl;
+        names-is = refl;
+        sizes-is = refl;
+        most = omega arith;
+        sized =
+            λ i h.
+            let g : i < min (s .count) 32 = omega arith in
+            rw (tab-at (min (s .count) 32) (λ i. record { name = at (s .names) i; size = at (s .sizes) i }) i noRequest g)
+            (ltb-true _ _ (rw (lt-ltb i (s .count) (omega arith)) at (every-at 32 (λ i. placeProper (ltb i (s .count)) (at (s .names) i) (at (s .sizes) i)) (both-true (leb (s .count) 32) _ e .1) i (omega arith))));
+      }
+
+  served-proper : (on : Bool) → proper (length (cond on (served (queue s)) (queue s))) (namesOf (cond on (served (queue s)) (queue s))) (sizesOf (cond on (served (queue s)) (queue s))) ≡ true
+  served-proper on =
+      let y = laid-served laid on in
+      laid-out (cond on (served (queue s)) (queue s)) (y .most) (y .sized)
+
+  asked-proper : (q : Request) → length (queue s) < 32 → 1 ≤ q .size
+      → proper (length (asked (queue s) q)) (namesOf (asked (queue s) q)) (sizesOf (asked (queue s) q)) ≡ true
+  asked-proper q m g =
+      let y = laid-asked laid q m g in
+      laid-out (asked (queue s) q) (y .most) (y .sized)
+
+use-one : (u : Use) → flag (isHard u) + flag (isGiven u) + flag (isEmpty u) + flag (isLost u) ≡ 1
+use-one (Hard row) = refl
+use-one (Given name) = refl
+use-one Empty = refl
+use-one Lost = refl
+
+-- the rows stay within their bounds, step by step
+module _ (s : State) (lost : Bool) (p : Parts s) where
+  settled-rows : rowsKept (s .n) (s .c) (s .d) (s .k) (settled s lost .left) (settled s lost .counter) ≡ true
+  unfolding settled with-figures leftJudged leftUsed leftReleased counter₁
+  settled-rows =
+      let m : ℕ = ran s in
+      let l : List ℕ = counter₁ s in
+      let on : Bool = isGive (choiceOf s) && not lost in
+      let row : ℕ = rowServed (useOf s lost) in
+      let a = kept-bounds (s .c) (s .d) (s .k) (s .n) (s .left) (s .counter) (p .rows) in
+      let b = reloaded-kept (s .c) (s .d) (s .k) (s .left) (s .counter) a (s .n) (s .left) in
+      let e = charged-kept (s .c) (s .d) (s .k) (s .left) l b on in
+      let f = released-kept (s .c) (s .d) (s .k) (s .left) (charged on l) e (dueWord m (s .n) (s .t)) in
+      let g = worked-kept (s .c) (s .d) (s .k) (leftReleased m (s .n) (s .c) (s .t) (s .d) (s .left)) (charged on l) f row in
+      bounds-kept (s .c) (s .d) (s .k) (s .n) _ _ (formed (s .n) (s .c) (s .t) (s .d) (p .table) .past)
+      (dropped-kept (s .c) (s .d) (s .k) (leftUsed m (s .n) (s .c) (s .t) (s .d) row (s .left)) (charged on l) g (lates m (s .n) (s .c) (s .t) (s .d) row (s .left)))
+
+  none-past : (i : ℕ) → s .n ≤ i → i < 16 → bit (lateOf s lost) i ≡ false
+  unfolding lateOf lates
+  none-past i g h = late-past i (ran s) (s .n) (s .t) (s .d) _ g h
+
+  settled-parts : s .next ≤ lastSlot → Parts (settled s lost)
+  unfolding settled with-figures
+  settled-parts m =
+      let n : suc (s .next) - 1 ≡ ran s + 1 = omega (arith, p .least) in
+      record {
+        table = p .table;
+        rows = settled-rows;
+        lates = rw n (lates-kept (s .n) (ran s) (s .late) (p .lates) (lateOf s lost) none-past);
+        tallies = omega (arith, p .tallies, p .least, use-one (useOf s lost));
+        least = omega arith;
+        most = omega arith;
+        waits = served-proper s (p .waits) (isGiven (useOf s lost));
+      }
+
+-- what a call that is not refused has passed
+slot-passed : (s : State) (lost : Bool) → slotRefusal s lost ≡ 0 → (legal s ≡ true) × (s .next ≡ suc lastSlot → ⊥)
+unfolding slotRefusal
+slot-passed s lost e = go (legal s) (eqb (s .next) (suc lastSlot)) refl refl e
+  where
+    go : (a b : Bool) → legal s ≡ a → eqb (s .next) (suc lastSlot) ≡ b → _≡_ {A = ℕ} (cond a (cond b 10 0) 11) 0 → (legal s ≡ true) × (s .next ≡ suc lastSlot → ⊥)
+    go true true f g e = absurd (omega arith)
+    go true false f g e = (f, eqb-false _ _ g)
+    go false b f g e = absurd (omega arith)
+
+request-passed : (s : State) (name size : ℕ) → requestRefusal s name size ≡ 0 → (legal s ≡ true) × (1 ≤ size) × (s .count < 32)
+unfolding requestRefusal
+request-passed s name size e = go (legal s) (eqb size 0) (leb 32 (s .count)) refl refl refl e
+  where
+    go : (a b c : Bool) → legal s ≡ a → eqb size 0 ≡ b → leb 32 (s .count) ≡ c → _≡_ {A = ℕ} (cond a (cond b 8 (cond c 9 0)) 11) 0
+        → (legal s ≡ true) × (1 ≤ size) × (s .count < 32)
+    go true true c f g h e = absurd (omega arith)
+    go true false true f g h e = absurd (omega arith)
+    go true false false f g h e = (f, let z = eqb-false size 0 g in omega arith, leb-false _ _ h)
+    go false b c f g h e = absurd (omega arith)
+
+slot-legal : (s : State) (lost : Bool) (r : ℕ) → slotRefusal s lost ≡ r → legal s ≡ true → legal (slotOf s lost .state) ≡ true
+slot-legal s lost zero e l =
+    let p = parts s l in
+    let z = slot-passed s lost e .1 in
+    rw (slot-run s lost e) (whole (settled s lost) (settled-parts s lost p (omega (arith, p .most))))
+slot-legal s lost (suc r) e l = rw (slot-refused s lost r e) l
+
+joined-parts : (s : State) (name size : ℕ) → Parts s → 1 ≤ size → s .count < 32 → Parts (joined s name size)
+unfolding joined with-figures waiting
+joined-parts s name size p g m =
+    record {
+      table = p .table;
+      rows = p .rows;
+      lates = p .lates;
+      tallies = p .tallies;
+      least = p .least;
+      most = p .most;
+      waits =
+          asked-proper s (p .waits) (record { name = name; size = size })
+          (let n : length (queue s) ≡ min (s .count) 32 = tab-length (min (s .count) 32) _ in omega arith) g;
+    }
+
+request-legal : (s : State) (name size r : ℕ) → requestRefusal s name size ≡ r → legal s ≡ true → legal (requestOf s name size .state) ≡ true
+request-legal s name size zero e l =
+    let y = request-passed s name size e in
+    rw (request-run s name size e) (whole (joined s name size) (joined-parts s name size (parts s l) (y .1) (y .2)))
+request-legal s name size (suc r) e l = rw (request-refused s name size r e) l
+
+pub step-legal : (s : State) (x : Call) → legal s ≡ true → legal (step s x) ≡ true
+unfolding step
+step-legal s (slot lost) l = slot-legal s lost (slotRefusal s lost) refl l
+step-legal s (request name size) l = request-legal s name size (requestRefusal s name size) refl l
+
+pub legal-stays : LegalStays
+unfolding runOf
+legal-stays s l [] = l
+legal-stays s l (x ∷ calls) = legal-stays (step s x) (step-legal s x l) calls
+
+-- the start
+pub begin-legal : (x : Table) (k : List ℕ) → Accepted x k → legal (begin x k) ≡ true
+unfolding latesKept
+begin-legal x k a =
+    let f = formed (x .n) (x .c) (x .t) (x .d) (a .well-formed) in
+    whole (begin x k)
+    (record {
+      table = a .well-formed;
+      rows =
+          bounds-kept (x .c) (x .d) k (x .n) (replicate 16 0) (replicate 16 0) (f .past)
+          (λ i h. record { slack = small i h; charge = omega (arith, at-zeros 16 i); work = omega (arith, at-zeros 16 i) });
+      lates = lates-zero;
+      tallies = refl;
+      least = omega arith;
+      most = omega arith;
+      waits = laid-proper laid-none;
+    })
+  where
+    small : (i : ℕ) → i < 16 → at k i ≤ at (x .d) i - at (x .c) i
+    small i h =
+        elim (decLt i (x .n)) [
+          | yes r ↦
+              omega (
+                arith,
+                allowance-small (at (x .c)) (at (x .t)) i (at (x .d) i) (formed (x .n) (x .c) (x .t) (x .d) (a .well-formed) .ordered .within i r),
+                a .largest i r,
+              )
+          | no r ↦ omega (arith, a .zeros i (omega arith) h)
+        ]
+
+    lates-zero : latesKept (x .n) 0 (replicate 16 0) ≡ true
+    lates-zero = every-true 16 _ (λ i h. le-leb (at (replicate 16 0) i) (cond (ltb i (x .n)) 0 0) (omega (arith, at-zeros 16 i)))
