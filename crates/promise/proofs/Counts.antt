@@ -3,7 +3,7 @@ use mathlib.Core.Path.{_≡_, refl, ap, sym, _∙_}
 use mathlib.Core.List.{List}
 use mathlib.Core.Bool.{Bool, true, false, cond, _&&_}
 use Prim.Native.Nat.{ℕ, zero, suc, _+_, _*_, _-_, _^_, _≤_, _<_}
-use native.Mathlib.Nat.{add-zero}
+use native.Mathlib.Nat.{add-zero, zero-add}
 use native.Mathlib.Numerals.{add-one}
 use native.Mathlib.Omega.{arith}
 use lib.Count.{ones}
@@ -44,6 +44,10 @@ word-cut f n zero e = rw (add-zero n)
 word-cut f n (suc m) e =
     let k : n + suc m ≡ n + m + 1 = omega arith in
     rw (k, tab-word-more (n + m) f, e (n + m) (omega arith) (omega arith), word-cut f n m (λ i g h. e i g (omega arith))) (omega arith)
+
+pub word-none : (f : ℕ → Bool) (n : ℕ) → ((i : ℕ) → i < n → f i ≡ false) → word (tab n f) ≡ 0
+unfolding word tab
+word-none f n e = rw (zero-add n) at (word-cut f 0 n (λ i g h. e i (omega arith)))
 
 word-told : (f g : ℕ → Bool) (n : ℕ) → n ≤ 16 → ((i : ℕ) → i < n → bit (word (tab 16 f)) i ≡ g i)
     → ((i : ℕ) → n ≤ i → i < 16 → bit (word (tab 16 f)) i ≡ false) → word (tab 16 f) ≡ word (tab n g)

@@ -5,3 +5,4 @@ pub mod Engine
 pub mod Starts
 pub mod Legal
 pub mod Counts
+pub mod Safe
