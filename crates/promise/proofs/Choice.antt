@@ -86,7 +86,7 @@ module _ {n count : ℕ} {left counter : List ℕ} {lost : Bool} where
 
 -- v is the work left after the use
 module _ (n : ℕ) (left : List ℕ) (i : ℕ) (r : i < rowsOf n) (v : ℕ → ℕ) where
-  used-sum : (u : Use) → ((h : ℕ) → h < suc i → v h + flag (isRow h u) ≡ at left h)
+  pub used-sum : (u : Use) → ((h : ℕ) → h < suc i → v h + flag (isRow h u) ≡ at left h)
       → backlog v i + sum (λ h. flag (isRow h u)) (suc i) ≡ backlog (at left) i
   used-sum u e = sym (sum-add v (λ h. flag (isRow h u)) (suc i)) ∙ sum-eq (λ h. v h + flag (isRow h u)) (at left) (suc i) e
 

@@ -6,3 +6,4 @@ pub mod Starts
 pub mod Legal
 pub mod Counts
 pub mod Safe
+pub mod Forced
