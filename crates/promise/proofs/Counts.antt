@@ -26,12 +26,12 @@ use Rattle.engine.specs.Calls.{lateTotalOf}
 use Rattle.promise.specs.Runs.{Call, runOf, history, moment}
 use Rattle.promise.specs.History.{answerAt, lateCount}
 use Rattle.promise.specs.Starts.{Accepted, begin}
-use Rattle.promise.specs.Demands.{lateOfRow, rowEndsLate, Counted, Flagged, Demand2}
+use Rattle.promise.specs.Demands.{lateOfRow, rowEndsLate, Counted, Flagged}
 use Rattle.promise.proofs.Trail.{last-moment, trail}
 use Rattle.promise.proofs.Lane.{Ordered, Lane, lane-count, lane-flag}
 use Rattle.promise.proofs.Engine.{Tame, tame, lane, word-is, figure-run}
 use Rattle.promise.proofs.Starts.{formed}
-use Rattle.promise.proofs.Legal.{tallies-legal, none-late-past, legal-stays, begin-legal}
+use Rattle.promise.proofs.Legal.{tallies-legal, none-late-past, run-legal, begin-legal}
 
 -- a word of flags that are not set from n on
 tab-same : {A : Type 0} (n : ℕ) (f g : ℕ → A) → ((i : ℕ) → i < n → f i ≡ g i) → tab n f ≡ tab n g
@@ -84,7 +84,7 @@ module _ (x : Table) (k : List ℕ) (a : Accepted x k) (calls : List Call) where
   end-tame = rw (last-moment calls (begin x k)) at (tame x k calls (length h) (omega arith))
 
   end-legal : legal end ≡ true
-  end-legal = legal-stays (begin x k) (begin-legal x k a) calls
+  end-legal = run-legal (begin x k) (begin-legal x k a) calls
 
   pub late-run : (i : ℕ) → i < x .n → at (end .late) i ≡ lateOfRow x h i
   late-run i r = rw (last-moment calls (begin x k)) at (lane-count ordered (lane x k calls) i r)
@@ -98,7 +98,7 @@ module _ (x : Table) (k : List ℕ) (a : Accepted x k) (calls : List Call) where
       ∙ total-sum (end .late) (lateOfRow x h) (x .n) late-run in
       rw (end-legal, e)
 
-  counted-run : Counted x end h
+  pub counted-run : Counted x end h
   unfolding settled with-figures
   counted-run =
       record {
@@ -126,6 +126,3 @@ module _ (x : Table) (k : List ℕ) (a : Accepted x k) (calls : List Call) where
   pub flagged-run : (y : ℕ) → y < length h → Flagged x h y
   flagged-run y p =
       record { bits = word-run y p; number = number-run y p ∙ ap ones (word-run y p) ∙ ones-word (tab (x .n) (rowEndsLate x h y)) }
-
-pub demand2 : Demand2
-demand2 x k a calls = (counted-run x k a calls, flagged-run x k a calls)

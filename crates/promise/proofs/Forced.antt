@@ -26,13 +26,11 @@ use Rattle.engine.specs.declared.Use.{Use}
 use Rattle.engine.specs.declared.Use.the-variants.{Hard, Given, Empty, Lost}
 use Rattle.engine.specs.Slot.{chosen, isGive, rowServed, leftReleased, leftUsed, leftJudged}
 use Rattle.promise.specs.History.{answerAt, isRow, noAnswer}
-use Rattle.promise.specs.Starts.{Accepted}
 use Rattle.promise.specs.Forced.{forcedUse, forcedLeft, forcedWord, forcedAnswer, forcedHistory}
-use Rattle.promise.specs.Demands.{rowEndsLate, Smallest, Demand3b}
+use Rattle.promise.specs.Demands.{rowEndsLate}
 use Rattle.promise.proofs.Choice.{View, is-lost, is-given, is-hard, is-back, is-empty, view, fits, places, low, used-sum}
 use Rattle.promise.proofs.Lane.{Ordered, Lane, judged-long, mids, uses, lane-mid, lane-used, lane-bit, lane-left, lane-flag}
 use Rattle.promise.proofs.Engine.{at-zeros}
-use Rattle.promise.proofs.Starts.{formed}
 
 -- a point's sum
 sum-point : (f n : ℕ) → f < n → sum (λ h. flag (eqb (suc f) (suc h))) n ≡ 1
@@ -195,9 +193,3 @@ module _ (x : Table) (o : Ordered (x .n) (x .c) (x .t) (x .d)) (g m : ℕ) where
         let p : z .0 < length hist = omega (arith, z .2) in
         let w : z .1 < x .n = omega (arith, z .3) in
         (z .1, z .0, w, omega (arith, z .2), sym (lane-flag o lane (z .1) w (z .0) p) ∙ late-bit (z .0) (z .1) p (z .3) (z .4))
-
-pub demand3b : Demand3b
-demand3b x each a k s most q =
-    let i = s .place in
-    forced-late x (formed (x .n) (x .c) (x .t) (x .d) (a .well-formed) .ordered) (suc k) most i (s .inside) (q i (s .inside))
-    (omega (arith, a .largest i (s .inside), s .there))

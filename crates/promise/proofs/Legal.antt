@@ -50,7 +50,6 @@ use Rattle.engine.specs.Slot.{
 use Rattle.engine.specs.Calls.{requestRefusal, joined, requestOf}
 use Rattle.promise.specs.Runs.{Call, slot, request, step, runOf}
 use Rattle.promise.specs.Starts.{Accepted, begin}
-use Rattle.promise.specs.Demands.{LegalStays}
 use Rattle.promise.proofs.Trail.{slot-run, slot-refused, request-run, request-refused}
 use Rattle.promise.proofs.Starts.{Formed, formed}
 use Rattle.promise.proofs.Engine.{at-zeros}
@@ -228,10 +227,10 @@ unfolding step
 step-legal s (slot lost) l = slot-legal s lost (slotRefusal s lost) refl l
 step-legal s (request name size) l = request-legal s name size (requestRefusal s name size) refl l
 
-pub legal-stays : LegalStays
+pub run-legal : (s : State) → legal s ≡ true → (calls : List Call) → legal (runOf s calls) ≡ true
 unfolding runOf
-legal-stays s l [] = l
-legal-stays s l (x ∷ calls) = legal-stays (step s x) (step-legal s x l) calls
+run-legal s l [] = l
+run-legal s l (x ∷ calls) = run-legal (step s x) (step-legal s x l) calls
 
 -- the start
 pub begin-legal : (x : Table) (k : List ℕ) → Accepted x k → legal (begin x k) ≡ true

@@ -30,7 +30,7 @@ use Rattle.engine.specs.Slot.{isGive, isLost, counter₁, left₁, choiceOf, us
 use Rattle.promise.specs.Runs.{Call, history, moment}
 use Rattle.promise.specs.History.{answerAt, isRow, hit, got, NoneLost}
 use Rattle.promise.specs.Starts.{Accepted, begin}
-use Rattle.promise.specs.Demands.{lateOfRow, rowEndsLate, InTime, Demand3a, Spared, NeverLate}
+use Rattle.promise.specs.Demands.{lateOfRow, rowEndsLate, InTime, Spared}
 use Rattle.promise.proofs.Trail.{trail}
 use Rattle.promise.proofs.Choice.{low, high, took}
 use Rattle.promise.proofs.Lane.{Ordered, mids, uses, lane-mid, lane-used, lane-left, lane-count, row-run}
@@ -144,11 +144,8 @@ module _ (x : Table) (k : List ℕ) (a : Accepted x k) (i : ℕ) (r : i < x .n) 
         none = sym (lane-count ordered (lane x k calls) i r) ∙ y .0;
       }
 
-pub never-late : NeverLate
-never-late x k a i r calls spared = in-time x k a i r calls spared
-
 -- where no slot is lost every row is spared
-spared-all : (x : Table) (k : List ℕ) (calls : List Call) → NoneLost (history (begin x k) calls) → (i : ℕ) → Spared (begin x k) calls i
+pub spared-all : (x : Table) (k : List ℕ) (calls : List Call) → NoneLost (history (begin x k) calls) → (i : ℕ) → Spared (begin x k) calls i
 unfolding useOf
 spared-all x k calls g i y p e =
     absurd (true≢false (sym (ap isLost (used-is x k calls y p ∙ ap (λ (b : Bool). useOf (moment (begin x k) calls y .state) b) e)) ∙ g y p))
@@ -163,24 +160,23 @@ ends-counted x h i y one p e =
     let t : f z ≡ 1 = rw (le-leb (z + at (x .d) i) (length h) (omega arith), a .1) in
     omega (arith, term-le f (length h) z (omega arith))
 
-pub demand3a : Demand3a
-demand3a x k a calls g = (
-  λ i r. in-time x k a i r calls (spared-all x k calls g i),
-  λ y p. flagged-run x k a calls y p .bits ∙ word-none (rowEndsLate x (history (begin x k) calls) y) (x .n) (fine y p),
-)
+-- so no late word but 0
+pub words-zero : (x : Table) (k : List ℕ) → Accepted x k → (calls : List Call) → NoneLost (history (begin x k) calls)
+    → (y : ℕ) → y < length (history (begin x k) calls) → answerAt (history (begin x k) calls) y .word ≡ 0
+words-zero x k a calls g y p = flagged-run x k a calls y p .bits ∙ word-none (rowEndsLate x h y) (x .n) (λ i r. fine i r (rowEndsLate x h y i) refl)
   where
-    fine : (y : ℕ) → y < length (history (begin x k) calls) → (i : ℕ) → i < x .n → rowEndsLate x (history (begin x k) calls) y i ≡ false
-    fine y p i r = go (rowEndsLate x (history (begin x k) calls) y i) refl
-      where
-        o : Ordered (x .n) (x .c) (x .t) (x .d)
-        o = formed (x .n) (x .c) (x .t) (x .d) (a .well-formed) .ordered
+    h : List Answer
+    h = history (begin x k) calls
 
-        go : (b : Bool) → rowEndsLate x (history (begin x k) calls) y i ≡ b → b ≡ false
-        go true e =
-            absurd
-            (omega (
-              arith,
-              ends-counted x (history (begin x k) calls) i y (omega (arith, o .cost i r, o .within i r)) p e,
-              in-time x k a i r calls (spared-all x k calls g i) .none,
-            ))
-        go false e = refl
+    o : Ordered (x .n) (x .c) (x .t) (x .d)
+    o = formed (x .n) (x .c) (x .t) (x .d) (a .well-formed) .ordered
+
+    fine : (i : ℕ) → i < x .n → (b : Bool) → rowEndsLate x h y i ≡ b → rowEndsLate x h y i ≡ false
+    fine i r true e =
+        absurd
+        (omega (
+          arith,
+          ends-counted x h i y (omega (arith, o .cost i r, o .within i r)) p e,
+          in-time x k a i r calls (spared-all x k calls g i) .none,
+        ))
+    fine i r false e = e

@@ -1,0 +1,99 @@
+-- Each statement of specs/Demands.antt holds. Assumes nothing.
+use mathlib.Core.Path.{_≡_, refl, ap, sym, _∙_}
+use mathlib.Core.List.{List, [], _∷_, _++_}
+use mathlib.Core.Bool.{Bool, true, false, cond}
+use Prim.Native.Nat.{ℕ, zero, suc, _≤_, _<_}
+use native.Mathlib.Omega.{arith}
+use lib.Dec.{eqb, leb, eqb·suc-zero}
+use Rattle.table.specs.declared.Table.{Table}
+use Rattle.engine.specs.declared.State.{State}
+use Rattle.engine.specs.declared.Answer.{Answer}
+use Rattle.engine.specs.declared.Slotted.{Slotted}
+use Rattle.engine.specs.declared.Requested.{Requested}
+use Rattle.engine.specs.declared.Use.the-variants.{Empty}
+use Rattle.engine.specs.States.{lastSlot}
+use Rattle.engine.specs.Legal.{legal}
+use Rattle.engine.specs.Slot.{slotRefusal, slotOf, settled, answered}
+use Rattle.engine.specs.Calls.{requestRefusal, requestOf, joined}
+use Rattle.promise.specs.Runs.{Call, slot, request, step, said, runOf, history}
+use Rattle.promise.specs.Starts.{Accepted, begin}
+use Rattle.promise.specs.Demands.{Demand2, ByTheRules, Demand3a, NeverLate, Demand3b, Untouched, Demand1, LegalStays, NeverEleven}
+use Rattle.promise.proofs.Trail.{slot-run, slot-refused, request-run, request-refused, trail}
+use Rattle.promise.proofs.Starts.{formed}
+use Rattle.promise.proofs.Legal.{run-legal, begin-legal}
+use Rattle.promise.proofs.Counts.{counted-run, flagged-run}
+use Rattle.promise.proofs.Safe.{in-time, spared-all, words-zero}
+use Rattle.promise.proofs.Forced.{forced-late}
+
+pub demand2 : Demand2
+demand2 x k a calls = (counted-run x k a calls, flagged-run x k a calls)
+
+pub by-the-rules : ByTheRules
+by-the-rules s calls y p = trail calls s y p .answer
+
+pub demand3a : Demand3a
+demand3a x k a calls g = (λ i r. in-time x k a i r calls (spared-all x k calls g i), words-zero x k a calls g)
+
+pub never-late : NeverLate
+never-late x k a i r calls g = in-time x k a i r calls g
+
+pub demand3b : Demand3b
+demand3b x each a k s most q =
+    forced-late x (formed (x .n) (x .c) (x .t) (x .d) (a .well-formed) .ordered) (suc k) most (s .place) (s .inside) (q (s .place) (s .inside))
+    (omega (arith, a .largest (s .place) (s .inside), s .there))
+
+untouched : (s : State) (x : Call) → step s x ≡ s → said s x ≡ [] → Untouched s x
+unfolding runOf history
+untouched s x e f = record { state = e; nothing = f; run-on = λ calls. rw e; told-on = λ calls. rw (e, f) }
+
+-- the numbers given back
+slot-number : (s : State) (lost : Bool) (r : ℕ) → slotRefusal s lost ≡ r → slotOf s lost .answer .number ≡ r
+unfolding answered
+slot-number s lost zero e = ap (λ (q : Slotted). q .answer .number) (slot-run s lost e)
+slot-number s lost (suc r) e = ap (λ (q : Slotted). q .answer .number) (slot-refused s lost r e)
+
+request-number : (s : State) (name size r : ℕ) → requestRefusal s name size ≡ r → requestOf s name size .number ≡ r
+request-number s name size zero e = ap (λ (q : Requested). q .number) (request-run s name size e)
+request-number s name size (suc r) e = ap (λ (q : Requested). q .number) (request-refused s name size r e)
+
+pub demand1 : Demand1
+unfolding step said
+demand1 s = (
+  λ lost number e.
+      let y = slot-refused s lost number (sym (slot-number s lost (slotRefusal s lost) refl) ∙ e) in (
+        untouched s (slot lost) (ap (λ (q : Slotted). q .state) y)
+            (ap (λ (q : Slotted). cond (eqb (q .answer .number) 0) (q .answer ∷ []) []) y ∙ rw (eqb·suc-zero number)),
+        ap (λ (q : Slotted). q .answer) y,
+      ),
+  λ name size number e.
+      let y = request-refused s name size number (sym (request-number s name size (requestRefusal s name size) refl) ∙ e) in
+      untouched s (request name size) (ap (λ (q : Requested). q .state) y) refl,
+)
+
+pub legal-stays : LegalStays
+legal-stays = run-legal
+
+-- a legal state is not refused as one that is not
+no-eleven : (s : State) → legal s ≡ true → ((lost : Bool) → slotRefusal s lost ≡ 11 → ⊥) × ((name size : ℕ) → requestRefusal s name size ≡ 11 → ⊥)
+unfolding slotRefusal requestRefusal
+no-eleven s l = (
+  λ lost e. ten (eqb (s .next) (suc lastSlot)) (rw l at e),
+  λ name size e. nine (eqb size 0) (leb 32 (s .count)) (rw l at e),
+)
+  where
+    ten : (b : Bool) → _≡_ {A = ℕ} (cond b 10 0) 11 → ⊥
+    ten true e = omega arith
+    ten false e = omega arith
+
+    nine : (b c : Bool) → _≡_ {A = ℕ} (cond b 8 (cond c 9 0)) 11 → ⊥
+    nine true c e = omega arith
+    nine false true e = omega arith
+    nine false false e = omega arith
+
+pub never-eleven : NeverEleven
+never-eleven x k a calls =
+    let s : State = runOf (begin x k) calls in
+    let y = no-eleven s (run-legal (begin x k) (begin-legal x k a) calls) in (
+      λ lost e. y .0 lost (sym (slot-number s lost (slotRefusal s lost) refl) ∙ e),
+      λ name size e. y .1 name size (sym (request-number s name size (requestRefusal s name size) refl) ∙ e),
+    )
