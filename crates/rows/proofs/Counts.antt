@@ -8,7 +8,11 @@ use native.Mathlib.Numerals.{add-one}
 use Rattle.seq.specs.Places.{flag, at}
 use Rattle.seq.specs.Words.{bit}
 use Rattle.seq.proofs.Places.{over-alike}
-use Rattle.rows.specs.Rows.{raised, counted, up, Within, total}
+use Rattle.rows.specs.Rows.{raised, counted, up, total}
+
+-- no figure above b
+abbrev pub Within : ℕ → List ℕ → Type 0
+Within b l = (i : ℕ) → i < 16 → at l i ≤ b
 
 pub up-exact : (on : Bool) (x : ℕ) → x + 1 < 2 ^ 64 → up on x ≡ x + flag on
 up-exact true x h = omega arith

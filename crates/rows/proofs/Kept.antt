@@ -1,67 +1,77 @@
 -- Rows within their bounds, and how a slot keeps them there.
 use mathlib.Core.Path.{_≡_, refl, sym, _∙_}
 use mathlib.Core.List.{List}
-use mathlib.Core.Bool.{Bool, true, false, cond}
+use mathlib.Core.Bool.{Bool, true, false, cond, _&&_, _||_, and-true, and-false}
 use Prim.Native.Nat.{ℕ, zero, suc, _+_, _-_, _≤_, _<_}
 use native.Mathlib.Omega.{arith}
 use lib.Dec.{eqb, ltb, leb, leb·suc-zero, eqb·suc-zero}
-use borrow.Author.Tests.{le-leb, ltb-false, leb-true}
+use borrow.Author.Tests.{eq-eqb, lt-ltb, le-ltb, le-leb, ltb-true, ltb-false, leb-true, eqb-true}
 use Rattle.seq.specs.Places.{flag, at, over}
 use Rattle.seq.specs.Words.{bit}
-use Rattle.seq.proofs.Places.{over-either, both-true, every-at, every-same, every-true}
+use Rattle.seq.proofs.Places.{over-either, both-true, every-at, every-true}
 use Rattle.seq.proofs.Words.{flag-le}
-use Rattle.rows.specs.Rows.{idle, reloaded, released, charged, worked, dropped, counted, Within, bounded, cleared, rowsKept, inBounds, latesKept}
-
--- the test of all places alike is the one of rows and zeros, where C and D are zero past n
-none : (x : ℕ) → leb x 0 ≡ eqb x 0
-none zero = refl
-none (suc x) = leb·suc-zero x ∙ sym (eqb·suc-zero x)
-
-bounded-zero : (k left counter : ℕ) → bounded 0 0 k left counter ≡ cleared k left counter
-bounded-zero zero left counter = rw (none counter, none left)
-bounded-zero (suc k) left counter = rw (leb·suc-zero k, eqb·suc-zero k)
-
-module _ (n : ℕ) (c d k left counter : List ℕ) where
-  pub bounds-kept : ((i : ℕ) → n ≤ i → i < 16 → (at c i ≡ 0) × (at d i ≡ 0)) → inBounds c d k left counter ≡ rowsKept n c d k left counter
-  unfolding inBounds rowsKept
-  bounds-kept z = every-same 16 _ _ (λ i h. split i h (ltb i n) refl)
-    where
-      split : (i : ℕ) → i < 16 → (b : Bool) → ltb i n ≡ b
-          → bounded (at c i) (at d i) (at k i) (at left i) (at counter i)
-          ≡ cond b (bounded (at c i) (at d i) (at k i) (at left i) (at counter i)) (cleared (at k i) (at left i) (at counter i))
-      split i h true e = refl
-      split i h false e = let y = z i (ltb-false _ _ e) h in rw (y .0, y .1) (bounded-zero (at k i) (at left i) (at counter i))
+use Rattle.rows.specs.Rows.{rowsOf, idle, reloaded, released, charged, worked, dropped, counted, rowKept, rowsKept, latesKept}
+use Rattle.rows.proofs.Counts.{Within}
 
 low : (b : Bool) {x y z : ℕ} → x ≤ z → y ≤ z → cond b x y ≤ z
 low true g h = g
 low false g h = h
 
--- what the test says of each place
+-- the bounds hold of zeros too
+none : (x : ℕ) → leb x 0 ≡ eqb x 0
+none zero = refl
+none (suc x) = leb·suc-zero x ∙ sym (eqb·suc-zero x)
+
+pub kept-alike : (used : Bool) (c d k left counter : ℕ) → leb k (d - c) && leb counter k && leb left c && (used || eqb k 0 && eqb left 0) ≡ rowKept used c d k left counter
+kept-alike true c d k left counter = and-true (leb k (d - c) && leb counter k && leb left c)
+kept-alike false c d zero zero counter = rw (le-leb 0 (d - c) (omega arith), none counter, le-leb 0 c (omega arith)) (and-true (eqb counter 0 && true))
+kept-alike false c d zero (suc left) counter = rw (eqb·suc-zero left, and-false (eqb counter 0)) (and-false (leb 0 (d - c) && leb counter 0 && leb (suc left) c))
+kept-alike false c d (suc k) left counter = rw (eqb·suc-zero k) (and-false (leb (suc k) (d - c) && leb counter (suc k) && leb left c))
+
+-- n counts as 16 where it is more
+pub below-rows : (i n : ℕ) → i < 16 → ltb i (rowsOf n) ≡ ltb i n
+below-rows i n h = split (ltb i n) refl
+  where
+    split : (b : Bool) → ltb i n ≡ b → ltb i (rowsOf n) ≡ b
+    split true e = lt-ltb i (rowsOf n) (let y : i < n = ltb-true _ _ e in omega arith)
+    split false e = le-ltb i (rowsOf n) (let y : n ≤ i = ltb-false _ _ e in omega arith)
+
+-- what the test says of each place, past n too
 pub record Bounds (c d k left counter : ℕ) : Type 0 where
   pub slack : k ≤ d - c
   pub charge : counter ≤ k
   pub work : left ≤ c
 
-bounded-says : {c d k left counter : ℕ} → bounded c d k left counter ≡ true → Bounds c d k left counter
-bounded-says e =
+kept-says : (used : Bool) {c d k left counter : ℕ} → rowKept used c d k left counter ≡ true → Bounds c d k left counter
+kept-says true e =
     let a = both-true _ _ e in
     let b = both-true _ _ (a .0) in
     record { slack = leb-true _ _ (b .0); charge = leb-true _ _ (b .1); work = leb-true _ _ (a .1) }
+kept-says false {c} {d} {k} {left} {counter} e =
+    let a = both-true _ (eqb left 0) e in
+    let b = both-true (eqb k 0) (eqb counter 0) (a .0) in
+    let x : k ≡ 0 = eqb-true _ _ (b .0) in
+    let y : counter ≡ 0 = eqb-true _ _ (b .1) in
+    let z : left ≡ 0 = eqb-true _ _ (a .1) in
+    record { slack = omega arith; charge = omega arith; work = omega arith }
 
-bounded-is : {c d k left counter : ℕ} → Bounds c d k left counter → bounded c d k left counter ≡ true
-bounded-is b = rw (le-leb _ _ (b .slack), le-leb _ _ (b .charge), le-leb _ _ (b .work))
+kept-is : (used : Bool) {c d k left counter : ℕ} → (used ≡ false → (c ≡ 0) × (d ≡ 0)) → Bounds c d k left counter → rowKept used c d k left counter ≡ true
+kept-is true z b = rw (le-leb _ _ (b .slack), le-leb _ _ (b .charge), le-leb _ _ (b .work))
+kept-is false {c} {d} {k} {left} {counter} z b =
+    let y = z refl in
+    rw (eq-eqb k 0 (omega arith), eq-eqb counter 0 (omega arith), eq-eqb left 0 (omega arith))
 
 module _ (c d k : List ℕ) where
   abbrev pub AllBounds : List ℕ → List ℕ → Type 0
   AllBounds left counter = (i : ℕ) → i < 16 → Bounds (at c i) (at d i) (at k i) (at left i) (at counter i)
 
-  pub bounds-say : (left counter : List ℕ) → inBounds c d k left counter ≡ true → AllBounds left counter
-  unfolding inBounds
-  bounds-say left counter e i h = bounded-says (every-at 16 _ e i h)
+  pub kept-bounds : (n : ℕ) (left counter : List ℕ) → rowsKept n c d k left counter ≡ true → AllBounds left counter
+  unfolding rowsKept
+  kept-bounds n left counter e i h = kept-says (ltb i n) (every-at 16 (λ i. rowKept (ltb i n) (at c i) (at d i) (at k i) (at left i) (at counter i)) e i h)
 
-  pub bounds-are : (left counter : List ℕ) → AllBounds left counter → inBounds c d k left counter ≡ true
-  unfolding inBounds
-  bounds-are left counter b = every-true 16 _ (λ i h. bounded-is (b i h))
+  pub bounds-kept : (n : ℕ) (left counter : List ℕ) → ((i : ℕ) → n ≤ i → i < 16 → (at c i ≡ 0) × (at d i ≡ 0)) → AllBounds left counter → rowsKept n c d k left counter ≡ true
+  unfolding rowsKept
+  bounds-kept n left counter z b = every-true 16 _ (λ i h. kept-is (ltb i n) (λ e. z i (ltb-false _ _ e) h) (b i h))
 
   -- each step keeps them
   module _ (left counter : List ℕ) (b : AllBounds left counter) where

@@ -10,9 +10,9 @@ use lib.Count.{ones}
 use borrow.Author.Tests.{ltb-true, ltb-false}
 use Rattle.seq.specs.Places.{flag, at, tab, over}
 use Rattle.seq.specs.Words.{trues, bit}
-use Rattle.seq.proofs.Places.{over-in, over-out}
+use Rattle.seq.proofs.Places.{over-in, over-out, every-at, every-not}
 use Rattle.seq.proofs.Words.{ones-word, tab-bit, tab-bit-past}
-use Rattle.rows.specs.Rows.{rowsOf, idle, reloaded, begins, ends, dueWord, endWord, released, charged, worked, lateWord, dropped, counted}
+use Rattle.rows.specs.Rows.{rowsOf, idle, reloaded, begins, ends, dueWord, endWord, released, noneZero, charged, worked, lateWord, dropped, counted}
 
 module _ (i : ℕ) where
   pub reloaded-at : (n : ℕ) (left k counter : List ℕ) → i < length counter → at (reloaded n left k counter) i ≡ cond (ltb i (idle n left)) (at k i) (at counter i)
@@ -58,3 +58,12 @@ module _ (i : ℕ) where
 pub late-rows : (end : ℕ) (left : List ℕ) → ones (lateWord end left) ≡ trues (tab 16 (λ i. bit end i && ltb 0 (at left i)))
 unfolding lateWord
 late-rows end left = ones-word _
+
+-- no counter is 0, or one is
+pub none-zero-at : (n : ℕ) (counter : List ℕ) → noneZero n counter ≡ true → (i : ℕ) → i < rowsOf n → 0 < at counter i
+unfolding noneZero
+none-zero-at n counter e i h = ltb-true 0 _ (every-at (rowsOf n) (λ i. ltb 0 (at counter i)) e i h)
+
+pub none-zero-not : (n : ℕ) (counter : List ℕ) (i : ℕ) → i < rowsOf n → at counter i ≡ 0 → noneZero n counter ≡ false
+unfolding noneZero
+none-zero-not n counter i h e = every-not (rowsOf n) (λ i. ltb 0 (at counter i)) i h (rw e)

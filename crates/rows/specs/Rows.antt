@@ -1,5 +1,5 @@
 -- One slot's steps on the figures of the rows, in document 01's order. A figure of row i stands at place i of its list, from 0 on.
-use Prim.Native.Nat.{ℕ, zero, suc, _+_, _-_, _%_, _^_, _≤_, _<_, min}
+use Prim.Native.Nat.{ℕ, zero, suc, _+_, _-_, _%_, _^_, min}
 use mathlib.Core.List.{List}
 use mathlib.Core.Bool.{Bool, cond, _&&_}
 use lib.Dec.{eqb, ltb, leb}
@@ -66,24 +66,13 @@ total zero l = 0
 total (suc n) l = total n l + at l n
 
 -- A legal state's rows: allowance, counter and work left within their bounds, and zero past n
-abbrev pub bounded : ℕ → ℕ → ℕ → ℕ → ℕ → Bool
-bounded c d k left counter = leb k (d - c) && leb counter k && leb left c
-
-abbrev pub cleared : ℕ → ℕ → ℕ → Bool
-cleared k left counter = eqb k 0 && eqb counter 0 && eqb left 0
+abbrev pub rowKept : Bool → ℕ → ℕ → ℕ → ℕ → ℕ → Bool
+rowKept used c d k left counter =
+    cond used (leb k (d - c) && leb counter k && leb left c) (eqb k 0 && eqb counter 0 && eqb left 0)
 
 unfoldable pub rowsKept : ℕ → List ℕ → List ℕ → List ℕ → List ℕ → List ℕ → Bool
-rowsKept n c d k left counter =
-    every 16 (λ i. cond (ltb i n) (bounded (at c i) (at d i) (at k i) (at left i) (at counter i)) (cleared (at k i) (at left i) (at counter i)))
-
--- the same where C and D are zero past n
-unfoldable pub inBounds : List ℕ → List ℕ → List ℕ → List ℕ → List ℕ → Bool
-inBounds c d k left counter = every 16 (λ i. bounded (at c i) (at d i) (at k i) (at left i) (at counter i))
+rowsKept n c d k left counter = every 16 (λ i. rowKept (ltb i n) (at c i) (at d i) (at k i) (at left i) (at counter i))
 
 -- late counts at most the slots run, and zero past n
 unfoldable pub latesKept : ℕ → ℕ → List ℕ → Bool
 latesKept n ran late = every 16 (λ i. leb (at late i) (cond (ltb i n) ran 0))
-
--- no figure above b
-abbrev pub Within : ℕ → List ℕ → Type 0
-Within b l = (i : ℕ) → i < 16 → at l i ≤ b

@@ -2,13 +2,13 @@
 // 16 places; a number of rows above 16 counts as 16.
 
 ghost use mathlib.Core.Path.{_≡_};
-ghost use mathlib.Core.Bool.{cond, _&&_};
+ghost use mathlib.Core.Bool.{cond, _||_};
 ghost use Prim.Native.Nat.{_+_, _-_, _*_, _^_, _%_, _<_};
 ghost use lib.Dec.{ltb};
 ghost use lib.Count.{ones};
 ghost use Rattle.seq.specs.Places.{flag};
 ghost use Rattle.seq.specs.Words.{bit};
-ghost use Rattle.rows.specs.Rows.{rowsOf, idle, reloaded, dueWord, endWord, released, noneZero, charged, worked, lateWord, dropped, up, raised, total, bounded, inBounds, latesKept};
+ghost use Rattle.rows.specs.Rows.{rowsOf, idle, reloaded, dueWord, endWord, released, noneZero, charged, worked, lateWord, dropped, up, raised, total, rowKept, rowsKept, latesKept};
 
 pub fn rows(n: usize) -> usize
     ensures { λ r. ⌜ r ≡ rowsOf n ⌝ }
@@ -78,12 +78,6 @@ fn pick(on: bool, x: u16, y: u16) -> u16
     ensures { λ r. ⌜ r ≡ cond on x y ⌝ }
 {
     if on { x } else { y }
-}
-
-fn both(a: bool, b: bool) -> bool
-    ensures { λ r. ⌜ r ≡ a && b ⌝ }
-{
-    if a { b } else { false }
 }
 
 pub struct Marks {
@@ -167,7 +161,7 @@ pub fn late_word(left: &[u16; 16], end: u16) -> u16
     let mut w: u16 = 0;
     let mut i = 0;
     while i < 16 {
-        let on = both(has(end, i), 0 < left[i]);
+        let on = seq::both(has(end, i), 0 < left[i]);
         w = with_bit(w, i, on);
         i += 1;
     }
@@ -236,26 +230,39 @@ fn room(c: u16, d: u16) -> u16
     if c < d { d - c } else { 0 }
 }
 
-fn within(c: u16, d: u16, k: u16, left: u16, counter: u16) -> bool
-    ensures { λ r. ⌜ r ≡ bounded c d k left counter ⌝ }
+fn either(a: bool, b: bool) -> bool
+    ensures { λ r. ⌜ r ≡ a || b ⌝ }
 {
-    both(both(k <= room(c, d), counter <= k), left <= c)
+    if a { true } else { b }
 }
 
-// All rows take the same test, with no early way out: the rows past n are zero where C and D are.
-pub fn in_bounds<'a>(
+// The bounds hold of zeros too, so a place past the rows need only be zero besides.
+fn row_kept(used: bool, c: u16, d: u16, k: u16, left: u16, counter: u16) -> bool
+    ensures { λ r. ⌜ r ≡ rowKept used c d k left counter ⌝ }
+{
+    let bounds = seq::both(seq::both(k <= room(c, d), counter <= k), left <= c);
+    let zero = seq::both(k == 0, left == 0);
+    seq::both(bounds, either(used, zero))
+}
+
+// All places take the same test, with no early way out; j is i in 16 bits, as wide as what is compared beside it.
+pub fn rows_kept<'a>(
+    n: usize,
     c: &'a [u16; 16],
     d: &'a [u16; 16],
     k: &'a [u16; 16],
     left: &'a [u16; 16],
     counter: &'a [u16; 16],
 ) -> bool
-    ensures { λ r. ⌜ r ≡ inBounds (now (c .entry)) (now (d .entry)) (now (k .entry)) (now (left .entry)) (now (counter .entry)) ⌝ }
+    ensures { λ r. ⌜ r ≡ rowsKept n (now (c .entry)) (now (d .entry)) (now (k .entry)) (now (left .entry)) (now (counter .entry)) ⌝ }
 {
+    let m = rows(n) as u16;
     let mut ok = true;
+    let mut j: u16 = 0;
     let mut i = 0;
     while i < 16 {
-        ok = both(ok, within(c[i], d[i], k[i], left[i], counter[i]));
+        ok = seq::both(ok, row_kept(j < m, c[i], d[i], k[i], left[i], counter[i]));
+        j += 1;
         i += 1;
     }
     ok
@@ -268,13 +275,13 @@ fn most(i: usize, n: usize, ran: u64) -> u64
     if i < n { ran } else { 0 }
 }
 
-pub fn lates_kept(late: &[u64; 16], n: usize, ran: u64) -> bool
+pub fn lates_kept(n: usize, ran: u64, late: &[u64; 16]) -> bool
     ensures { λ r. ⌜ r ≡ latesKept n ran (now (late .entry)) ⌝ }
 {
     let mut ok = true;
     let mut i = 0;
     while i < 16 {
-        ok = both(ok, late[i] <= most(i, n, ran));
+        ok = seq::both(ok, late[i] <= most(i, n, ran));
         i += 1;
     }
     ok

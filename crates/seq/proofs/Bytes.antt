@@ -1,13 +1,12 @@
 -- Laws of numbers of two bytes, at any place.
-use mathlib.Core.Path.{_≡_, refl, ap, sym, _∙_}
-use mathlib.Core.List.{List, [], _∷_, _++_, append-assoc}
-use Prim.Native.Nat.{ℕ, zero, suc, _+_, _*_, _/_, _%_, _≤_, _<_}
+use mathlib.Core.Path.{_≡_}
+use mathlib.Core.List.{List, [], _∷_, _++_}
+use Prim.Native.Nat.{ℕ, suc, _+_, _*_, _/_, _%_, _<_}
 use native.Mathlib.Nat.{div-add-mod', add-assoc}
 use native.Mathlib.Omega.{arith}
-use lib.ListN.{length, getD, take, drop, set}
-use lib.Seq.{getD-take, getD-drop, sets, getD-append-add, drop-cons}
-use Rattle.seq.specs.Places.{at}
-use Rattle.seq.specs.Bytes.{bigAt, bigBytes, Bytes}
+use lib.ListN.{length, take, drop, set}
+use lib.Seq.{getD-take, getD-drop, sets, getD-append-add}
+use Rattle.seq.specs.Bytes.{bigAt, bigBytes}
 
 -- in a part of a list, that starts at p
 pub big-part : (m p : ℕ) (l : List ℕ) (q : ℕ) → q + 1 < m → bigAt (take m (drop p l)) q ≡ bigAt l (p + q)

@@ -2,9 +2,10 @@
 use mathlib.Core.Path.{_≡_, refl, sym, ap}
 use mathlib.Core.List.{List, [], _∷_, _++_}
 use mathlib.Core.Bool.{Bool, true, false, cond, _&&_, and-true, and-false, and-assoc}
-use Prim.Native.Nat.{ℕ, zero, suc, _+_, _≤_, _<_}
+use Prim.Native.Nat.{ℕ, zero, suc, _+_, _≤_, _<_, min}
 use native.Mathlib.Numerals.{add-one}
 use native.Mathlib.Omega.{arith}
+use native.Mathlib.Nat.{zero-min, min-zero, suc-min-suc}
 use lib.ListN.{length, getD, set}
 use Rattle.seq.specs.Places.{tab, over, lead, every}
 
@@ -45,6 +46,13 @@ module _ {A : Type 0} where
   over-out d (suc n) f [] i h = refl
   over-out d (suc n) f (x ∷ l) zero h = absurd (omega arith)
   over-out d (suc n) f (x ∷ l) (suc i) h = over-out d n (λ i. f (suc i)) l i (omega arith)
+
+  -- a list has no places past its length
+  pub over-min : (n : ℕ) (f : ℕ → A → A) (l : List A) → over (min n (length l)) f l ≡ over n f l
+  unfolding over
+  over-min zero f l = rw zero-min
+  over-min (suc n) f [] = rw min-zero
+  over-min (suc n) f (x ∷ l) = rw (suc-min-suc n (length l), over-min n (λ i. f (suc i)) l)
 
   over-set : (d : A) (n : ℕ) (f : ℕ → A → A) (l : List A) → set (over n f l) n (f n (getD l n d)) ≡ over (suc n) f l
   unfolding over
@@ -167,3 +175,23 @@ pub every-true : (n : ℕ) (p : ℕ → Bool) → ((i : ℕ) → i < n → p i �
 unfolding every
 every-true zero p e = refl
 every-true (suc n) p e = rw (e 0 (omega arith)) (every-true n (λ i. p (suc i)) (λ i h. e (suc i) (omega arith)))
+
+-- each before the first that has not p has it, and that one has not
+step-before : (b : Bool) {x i : ℕ} → i < cond b (suc x) 0 → (b ≡ true) × (i ≤ x)
+step-before true g = (refl, omega arith)
+step-before false g = absurd (omega arith)
+
+pub lead-before : (n : ℕ) (p : ℕ → Bool) (i : ℕ) → i < lead n p → p i ≡ true
+unfolding lead
+lead-before zero p i h = absurd (omega arith)
+lead-before (suc n) p zero h = step-before (p 0) h .0
+lead-before (suc n) p (suc i) h = let y = step-before (p 0) h .1 in lead-before n (λ j. p (suc j)) i (omega arith)
+
+step-stop : (p : ℕ → Bool) (b : Bool) {x n : ℕ} → p 0 ≡ b → (x < n → p (suc x) ≡ false) → cond b (suc x) 0 < suc n → p (cond b (suc x) 0) ≡ false
+step-stop p true e h g = h (omega arith)
+step-stop p false e h g = e
+
+pub lead-stop : (n : ℕ) (p : ℕ → Bool) → lead n p < n → p (lead n p) ≡ false
+unfolding lead
+lead-stop zero p h = absurd (omega arith)
+lead-stop (suc n) p h = step-stop p (p 0) refl (lead-stop n (λ i. p (suc i))) h

@@ -12,10 +12,10 @@ use Rattle.rows.proofs.lates_kept.Statement.{statement}
 use Rattle.rows.proofs.lates_kept.Tie as tie
 
 abbrev Inv-loop : tie.InvT-loop
-Inv-loop late n ran ok₀ i₀ ok i = (i ≤ 16) × (ok ≡ every i (λ j. leb (at late j) (cond (ltb j n) ran 0)))
+Inv-loop n ran late ok₀ i₀ ok i = (i ≤ 16) × (ok ≡ every i (λ j. leb (at late j) (cond (ltb j n) ran 0)))
 
 abbrev μ-loop : tie.MeasureT-loop
-μ-loop late n ran ok₀ i₀ ok i = 16 - i
+μ-loop n ran late ok₀ i₀ ok i = 16 - i
 
 loop-holds : tie.Need-loop-holds Inv-loop μ-loop
 unfolding every

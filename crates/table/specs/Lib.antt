@@ -1,0 +1,3 @@
+pub mod Verdicts
+pub mod Form
+pub mod Record
