@@ -8,7 +8,7 @@ use native.Mathlib.Omega.{arith}
 use lib.Dec.{eqb, ltb}
 use borrow.Author.Tests.{eq-eqb, ne-eqb, ltb-true, ltb-false}
 use Rattle.seq.specs.Places.{flag, at}
-use Rattle.seq.proofs.Places.{both-true}
+use Rattle.seq.proofs.Tests.{both-true}
 use Rattle.law.specs.Sums.{sum}
 use Rattle.law.specs.Level.{backlog}
 use Rattle.law.proofs.Sums.{sum-add, sum-eq, sum-zero, term-le}

@@ -10,7 +10,8 @@ use lib.ListN.{length, replicate}
 use borrow.Author.Tests.{eq-eqb, ne-eqb, lt-ltb, le-ltb, eqb-true, ltb-true}
 use Rattle.seq.specs.Places.{flag, at, tab}
 use Rattle.seq.specs.Words.{bit}
-use Rattle.seq.proofs.Places.{both-true, every-true, over-length, tab-length, tab-at}
+use Rattle.seq.proofs.Places.{every-true, over-length, tab-length, tab-at}
+use Rattle.seq.proofs.Tests.{both-true}
 use Rattle.law.specs.Sums.{sum}
 use Rattle.law.specs.Age.{released}
 use Rattle.law.specs.Work.{allowance}

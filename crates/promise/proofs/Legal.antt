@@ -11,7 +11,8 @@ use lib.ListN.{length, getD, replicate}
 use borrow.Author.Tests.{eq-eqb, le-leb, lt-ltb, eqb-true, eqb-false, leb-true, leb-false, ltb-true, le-ltb}
 use Rattle.seq.specs.Places.{flag, at, tab, every}
 use Rattle.seq.specs.Words.{bit}
-use Rattle.seq.proofs.Places.{both-true, every-at, every-true, tab-length, tab-at}
+use Rattle.seq.proofs.Tests.{both-true}
+use Rattle.seq.proofs.Places.{every-at, every-true, tab-length, tab-at}
 use Rattle.law.proofs.Work.{allowance-small}
 use Rattle.table.specs.declared.Table.{Table}
 use Rattle.table.specs.declared.Verdict.{Verdict}
@@ -48,56 +49,23 @@ use Rattle.engine.specs.Slot.{
   slotOf,
 }
 use Rattle.engine.specs.Calls.{requestRefusal, joined, requestOf}
+use Rattle.engine.proofs.Legality.{Legal, legal-says, legal-is, slot-legal, request-legal}
 use Rattle.promise.specs.Runs.{Call, slot, request, step, runOf}
 use Rattle.promise.specs.Starts.{Accepted, begin}
 use Rattle.promise.proofs.Trail.{slot-run, slot-refused, request-run, request-refused}
 use Rattle.promise.proofs.Starts.{Formed, formed}
 use Rattle.promise.proofs.Engine.{at-zeros}
 
--- the parts of the test
-record Parts (s : State) : Type 0 where
-  table : formVerdict (s .n) (s .c) (s .t) (s .d) ≡ Taken
-  rows : rowsKept (s .n) (s .c) (s .d) (s .k) (s .left) (s .counter) ≡ true
-  lates : latesKept (s .n) (ran s) (s .late) ≡ true
-  tallies : s .hard + s .given + s .empty + s .lost ≡ ran s
-  least : 1 ≤ s .next
-  most : s .next ≤ suc lastSlot
-  waits : proper (s .count) (s .names) (s .sizes) ≡ true
-
 taken-is : (v : Verdict) → taken v true false ≡ true → v ≡ Taken
 taken-is Taken e = refl
 taken-is (Refused number row) e = cc
 
-parts : (s : State) → legal s ≡ true → Parts s
-unfolding legal
-parts s e =
-    let a = both-true _ _ e in
-    let b = both-true _ _ (a .0) in
-    let c = both-true _ _ (b .0) in
-    let d = both-true _ _ (c .0) in
-    let f = both-true _ _ (d .0) in
-    let g = both-true _ _ (b .1) in
-    record {
-      table = taken-is _ (f .0);
-      rows = f .1;
-      lates = d .1;
-      tallies = eqb-true _ _ (c .1);
-      least = leb-true _ _ (g .0);
-      most = leb-true _ _ (g .1);
-      waits = a .1;
-    }
-
-whole : (s : State) → Parts s → legal s ≡ true
-unfolding legal
-whole s p =
-    rw (p .table, p .rows, p .lates, eq-eqb _ _ (p .tallies), le-leb _ _ (p .least), le-leb _ _ (p .most), p .waits)
-
 -- what the test says of the tallies, and of late counts past the rows
 pub tallies-legal : (s : State) → legal s ≡ true → s .hard + s .given + s .empty + s .lost ≡ ran s
-tallies-legal s l = parts s l .tallies
+tallies-legal s l = legal-says s l .tallies
 
 pub none-late-past : (s : State) → legal s ≡ true → (i : ℕ) → s .n ≤ i → i < 16 → at (s .late) i ≡ 0
-none-late-past s l i g h = omega (arith, rw (le-ltb i (s .n) g) at (lates-say (s .n) (ran s) (s .late) (parts s l .lates) i h))
+none-late-past s l i g h = omega (arith, rw (le-ltb i (s .n) g) at (lates-say (s .n) (ran s) (s .late) (legal-says s l .lates) i h))
 
 -- a list laid out is a legal queue
 laid-out : (l : List Request) → length l ≤ 32 → Sized l → proper (length l) (namesOf l) (sizesOf l) ≡ true
@@ -139,7 +107,7 @@ use-one Empty = refl
 use-one Lost = refl
 
 -- the rows stay within their bounds, step by step
-module _ (s : State) (lost : Bool) (p : Parts s) where
+module _ (s : State) (lost : Bool) (p : Legal s) where
   settled-rows : rowsKept (s .n) (s .c) (s .d) (s .k) (settled s lost .left) (settled s lost .counter) ≡ true
   unfolding settled with-figures leftJudged leftUsed leftReleased counter₁
   settled-rows =
@@ -152,56 +120,34 @@ module _ (s : State) (lost : Bool) (p : Parts s) where
       let e = charged-kept (s .c) (s .d) (s .k) (s .left) l b on in
       let f = released-kept (s .c) (s .d) (s .k) (s .left) (charged on l) e (dueWord m (s .n) (s .t)) in
       let g = worked-kept (s .c) (s .d) (s .k) (leftReleased m (s .n) (s .c) (s .t) (s .d) (s .left)) (charged on l) f row in
-      bounds-kept (s .c) (s .d) (s .k) (s .n) _ _ (formed (s .n) (s .c) (s .t) (s .d) (p .table) .past)
+      bounds-kept (s .c) (s .d) (s .k) (s .n) _ _ (formed (s .n) (s .c) (s .t) (s .d) (taken-is _ (p .table)) .past)
       (dropped-kept (s .c) (s .d) (s .k) (leftUsed m (s .n) (s .c) (s .t) (s .d) row (s .left)) (charged on l) g (lates m (s .n) (s .c) (s .t) (s .d) row (s .left)))
 
   none-past : (i : ℕ) → s .n ≤ i → i < 16 → bit (lateOf s lost) i ≡ false
   unfolding lateOf lates
   none-past i g h = late-past i (ran s) (s .n) (s .t) (s .d) _ g h
 
-  settled-parts : s .next ≤ lastSlot → Parts (settled s lost)
+  settled-parts : s .next ≤ lastSlot → Legal (settled s lost)
   unfolding settled with-figures
   settled-parts m =
-      let n : suc (s .next) - 1 ≡ ran s + 1 = omega (arith, p .least) in
+      let n : suc (s .next) - 1 ≡ ran s + 1 = omega (arith, p .began) in
       record {
         table = p .table;
         rows = settled-rows;
         lates = rw n (lates-kept (s .n) (ran s) (s .late) (p .lates) (lateOf s lost) none-past);
-        tallies = omega (arith, p .tallies, p .least, use-one (useOf s lost));
-        least = omega arith;
-        most = omega arith;
-        waits = served-proper s (p .waits) (isGiven (useOf s lost));
+        tallies = omega (arith, p .tallies, p .began, use-one (useOf s lost));
+        began = omega arith;
+        clock = omega arith;
+        queue = served-proper s (p .queue) (isGiven (useOf s lost));
       }
 
--- what a call that is not refused has passed
-slot-passed : (s : State) (lost : Bool) → slotRefusal s lost ≡ 0 → (legal s ≡ true) × (s .next ≡ suc lastSlot → ⊥)
-unfolding slotRefusal
-slot-passed s lost e = go (legal s) (eqb (s .next) (suc lastSlot)) refl refl e
-  where
-    go : (a b : Bool) → legal s ≡ a → eqb (s .next) (suc lastSlot) ≡ b → _≡_ {A = ℕ} (cond a (cond b 10 0) 11) 0 → (legal s ≡ true) × (s .next ≡ suc lastSlot → ⊥)
-    go true true f g e = absurd (omega arith)
-    go true false f g e = (f, eqb-false _ _ g)
-    go false b f g e = absurd (omega arith)
+slot-keeps : (s : State) (lost : Bool) (r : ℕ) → slotRefusal s lost ≡ r → legal s ≡ true → legal (slotOf s lost .state) ≡ true
+slot-keeps s lost zero e l =
+    let y = slot-legal s lost e in
+    rw (slot-run s lost e) (legal-is (settled s lost) (settled-parts s lost (y .0) (y .1)))
+slot-keeps s lost (suc r) e l = rw (slot-refused s lost r e) l
 
-request-passed : (s : State) (name size : ℕ) → requestRefusal s name size ≡ 0 → (legal s ≡ true) × (1 ≤ size) × (s .count < 32)
-unfolding requestRefusal
-request-passed s name size e = go (legal s) (eqb size 0) (leb 32 (s .count)) refl refl refl e
-  where
-    go : (a b c : Bool) → legal s ≡ a → eqb size 0 ≡ b → leb 32 (s .count) ≡ c → _≡_ {A = ℕ} (cond a (cond b 8 (cond c 9 0)) 11) 0
-        → (legal s ≡ true) × (1 ≤ size) × (s .count < 32)
-    go true true c f g h e = absurd (omega arith)
-    go true false true f g h e = absurd (omega arith)
-    go true false false f g h e = (f, let z = eqb-false size 0 g in omega arith, leb-false _ _ h)
-    go false b c f g h e = absurd (omega arith)
-
-slot-legal : (s : State) (lost : Bool) (r : ℕ) → slotRefusal s lost ≡ r → legal s ≡ true → legal (slotOf s lost .state) ≡ true
-slot-legal s lost zero e l =
-    let p = parts s l in
-    let z = slot-passed s lost e .1 in
-    rw (slot-run s lost e) (whole (settled s lost) (settled-parts s lost p (omega (arith, p .most))))
-slot-legal s lost (suc r) e l = rw (slot-refused s lost r e) l
-
-joined-parts : (s : State) (name size : ℕ) → Parts s → 1 ≤ size → s .count < 32 → Parts (joined s name size)
+joined-parts : (s : State) (name size : ℕ) → Legal s → 1 ≤ size → s .count < 32 → Legal (joined s name size)
 unfolding joined with-figures waiting
 joined-parts s name size p g m =
     record {
@@ -209,23 +155,23 @@ joined-parts s name size p g m =
       rows = p .rows;
       lates = p .lates;
       tallies = p .tallies;
-      least = p .least;
-      most = p .most;
-      waits =
-          asked-proper s (p .waits) (record { name = name; size = size })
+      began = p .began;
+      clock = p .clock;
+      queue =
+          asked-proper s (p .queue) (record { name = name; size = size })
           (let n : length (queue s) ≡ min (s .count) 32 = tab-length (min (s .count) 32) _ in omega arith) g;
     }
 
-request-legal : (s : State) (name size r : ℕ) → requestRefusal s name size ≡ r → legal s ≡ true → legal (requestOf s name size .state) ≡ true
-request-legal s name size zero e l =
-    let y = request-passed s name size e in
-    rw (request-run s name size e) (whole (joined s name size) (joined-parts s name size (parts s l) (y .1) (y .2)))
-request-legal s name size (suc r) e l = rw (request-refused s name size r e) l
+request-keeps : (s : State) (name size r : ℕ) → requestRefusal s name size ≡ r → legal s ≡ true → legal (requestOf s name size .state) ≡ true
+request-keeps s name size zero e l =
+    let y = request-legal s name size e in
+    rw (request-run s name size e) (legal-is (joined s name size) (joined-parts s name size (y .0) (y .1) (y .2)))
+request-keeps s name size (suc r) e l = rw (request-refused s name size r e) l
 
 pub step-legal : (s : State) (x : Call) → legal s ≡ true → legal (step s x) ≡ true
 unfolding step
-step-legal s (slot lost) l = slot-legal s lost (slotRefusal s lost) refl l
-step-legal s (request name size) l = request-legal s name size (requestRefusal s name size) refl l
+step-legal s (slot lost) l = slot-keeps s lost (slotRefusal s lost) refl l
+step-legal s (request name size) l = request-keeps s name size (requestRefusal s name size) refl l
 
 pub run-legal : (s : State) → legal s ≡ true → (calls : List Call) → legal (runOf s calls) ≡ true
 unfolding runOf
@@ -237,17 +183,17 @@ pub begin-legal : (x : Table) (k : List ℕ) → Accepted x k → legal (begin x
 unfolding latesKept
 begin-legal x k a =
     let f = formed (x .n) (x .c) (x .t) (x .d) (a .well-formed) in
-    whole (begin x k)
+    legal-is (begin x k)
     (record {
-      table = a .well-formed;
+      table = rw (a .well-formed);
       rows =
           bounds-kept (x .c) (x .d) k (x .n) (replicate 16 0) (replicate 16 0) (f .past)
           (λ i h. record { slack = small i h; charge = omega (arith, at-zeros 16 i); work = omega (arith, at-zeros 16 i) });
       lates = lates-zero;
       tallies = refl;
-      least = omega arith;
-      most = omega arith;
-      waits = laid-proper laid-none;
+      began = omega arith;
+      clock = omega arith;
+      queue = laid-proper laid-none;
     })
   where
     small : (i : ℕ) → i < 16 → at k i ≤ at (x .d) i - at (x .c) i

@@ -11,7 +11,7 @@ use lib.ListN.{length}
 use borrow.Author.Tests.{eq-eqb, lt-ltb, le-ltb, le-leb, leb-true}
 use Rattle.seq.specs.Places.{flag, at, tab}
 use Rattle.seq.specs.Words.{word, bit}
-use Rattle.seq.proofs.Places.{both-true}
+use Rattle.seq.proofs.Tests.{both-true}
 use Rattle.law.specs.Sums.{sum}
 use Rattle.law.specs.Age.{released}
 use Rattle.law.specs.Judge.{tooFew}

@@ -7,7 +7,8 @@ use native.Mathlib.Omega.{arith}
 use lib.Dec.{eqb, ltb, leb}
 use borrow.Author.Tests.{lt-ltb, le-ltb, ltb-false, eqb-true, leb-true}
 use Rattle.seq.specs.Places.{at}
-use Rattle.seq.proofs.Places.{both-true, lead-all}
+use Rattle.seq.proofs.Places.{lead-all}
+use Rattle.seq.proofs.Tests.{both-true}
 use Rattle.law.specs.Work.{holds, allowance}
 use Rattle.law.proofs.Work.{allowance-holds}
 use Rattle.table.specs.declared.Table.{Table}
@@ -15,24 +16,10 @@ use Rattle.table.specs.declared.Verdict.{Verdict}
 use Rattle.table.specs.declared.Verdict.the-variants.{Taken, Refused}
 use Rattle.table.specs.Verdicts.{_andThen_}
 use Rattle.table.specs.Form.{inOrder, allZero, sound, unsoundRow, countVerdict, rowsVerdict, periodsVerdict, formVerdict, formOf}
+use Rattle.table.proofs.Verdicts.{refuse-taken}
+use Rattle.table.proofs.WellFormed.{form-parts, taken-few}
 use Rattle.promise.specs.Starts.{rowHolds, Accepted}
 use Rattle.promise.proofs.Lane.{Ordered}
-
-first-taken : (v w : Verdict) → v andThen w ≡ Taken → v ≡ Taken
-first-taken Taken w e = refl
-first-taken (Refused number row) w e = cc
-
-second-taken : (v w : Verdict) → v andThen w ≡ Taken → w ≡ Taken
-second-taken Taken w e = e
-second-taken (Refused number row) w e = cc
-
-not-refused : (b : Bool) (number row : ℕ) → cond b (Refused number row) Taken ≡ Taken → b ≡ false
-not-refused true number row e = cc
-not-refused false number row e = refl
-
-neither : (a b : Bool) → a || b ≡ false → b ≡ false
-neither true b e = cc
-neither false b e = e
 
 -- the rows of a well-formed table are in order, and those past n are zero
 pub record Formed (n : ℕ) (c t d : List ℕ) : Type 0 where
@@ -40,17 +27,9 @@ pub record Formed (n : ℕ) (c t d : List ℕ) : Type 0 where
   pub past : (i : ℕ) → n ≤ i → i < 16 → (at c i ≡ 0) × (at d i ≡ 0)
 
 module _ (n : ℕ) (c t d : List ℕ) (e : formVerdict n c t d ≡ Taken) where
-  head-taken : countVerdict n andThen rowsVerdict n c t d ≡ Taken
-  unfolding formVerdict
-  head-taken = first-taken (countVerdict n andThen rowsVerdict n c t d) (periodsVerdict n t) e
-
-  few : n ≤ 16
-  unfolding countVerdict
-  few = ltb-false 16 n (neither (eqb n 0) (ltb 16 n) (not-refused (eqb n 0 || ltb 16 n) 4 0 (first-taken (countVerdict n) (rowsVerdict n c t d) head-taken)))
-
   all-sound : 16 ≤ unsoundRow n c t d
   unfolding rowsVerdict
-  all-sound = ltb-false (unsoundRow n c t d) 16 (not-refused (ltb (unsoundRow n c t d) 16) 5 (suc (unsoundRow n c t d)) (second-taken (countVerdict n) (rowsVerdict n c t d) head-taken))
+  all-sound = ltb-false _ _ (refuse-taken (ltb (unsoundRow n c t d) 16) 5 (suc (unsoundRow n c t d)) (form-parts n c t d e .1))
 
   sound-at : (i : ℕ) → i < 16 → sound n c t d i ≡ true
   unfolding unsoundRow
@@ -59,7 +38,7 @@ module _ (n : ℕ) (c t d : List ℕ) (e : formVerdict n c t d ≡ Taken) where
   in-order : (i : ℕ) → i < n → (1 ≤ at c i) × (at c i ≤ at d i) × (at d i ≤ at t i)
   unfolding sound
   in-order i h =
-      let p : inOrder (at c i) (at t i) (at d i) ≡ true = rw (lt-ltb i n h) at (sound-at i (omega (arith, few))) in
+      let p : inOrder (at c i) (at t i) (at d i) ≡ true = rw (lt-ltb i n h) at (sound-at i (omega (arith, taken-few n c t d e))) in
       let a = both-true _ _ (both-true _ _ p .0) in
       let b = both-true _ _ (a .0) in
       (leb-true _ _ (b .0), leb-true _ _ (b .1), leb-true _ _ (a .1))
@@ -68,7 +47,7 @@ module _ (n : ℕ) (c t d : List ℕ) (e : formVerdict n c t d ≡ Taken) where
   unfolding sound
   formed =
       record {
-        ordered = record { few = few; cost = λ i h. in-order i h .0; within = λ i h. in-order i h .1; short = λ i h. in-order i h .2 };
+        ordered = record { few = taken-few n c t d e; cost = λ i h. in-order i h .0; within = λ i h. in-order i h .1; short = λ i h. in-order i h .2 };
         past =
             λ i g h.
             let p : allZero (at c i) (at t i) (at d i) ≡ true = rw (le-ltb i n g) at (sound-at i h) in
