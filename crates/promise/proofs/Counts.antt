@@ -1,34 +1,31 @@
 -- Demand 2: the counts of a state are those of its history, and each late word tells the instances that got too few.
 use mathlib.Core.Path.{_≡_, refl, ap, sym, _∙_}
 use mathlib.Core.List.{List}
-use mathlib.Core.Bool.{Bool, true, false, cond, _&&_}
-use Prim.Native.Nat.{ℕ, zero, suc, _+_, _*_, _-_, _^_, _≤_, _<_}
+use mathlib.Core.Bool.{Bool, true, false}
+use Prim.Native.Nat.{ℕ, zero, suc, _+_, _-_, _≤_, _<_}
 use native.Mathlib.Nat.{add-zero, zero-add}
-use native.Mathlib.Numerals.{add-one}
 use native.Mathlib.Omega.{arith}
 use lib.Count.{ones}
-use lib.Dec.{ltb}
 use lib.ListN.{length}
-use Rattle.seq.specs.Places.{flag, at, tab}
+use Rattle.seq.specs.Places.{at, tab}
 use Rattle.seq.specs.Words.{word, bit}
 use Rattle.seq.proofs.Words.{ones-word, tab-bit, tab-word-more}
 use Rattle.law.specs.Sums.{sum}
-use Rattle.rows.specs.Rows.{lateWord, endWord, total}
+use Rattle.rows.specs.Rows.{lateWord, total}
 use Rattle.rows.proofs.Points.{late-past}
 use Rattle.table.specs.declared.Table.{Table}
 use Rattle.engine.specs.declared.State.{State}
 use Rattle.engine.specs.declared.Answer.{Answer}
-use Rattle.engine.specs.declared.Summed.{Summed}
 use Rattle.engine.specs.States.{with-figures}
 use Rattle.engine.specs.Legal.{legal}
-use Rattle.engine.specs.Slot.{isHard, isGiven, isEmpty, isLost, rowServed, leftUsed, lates, lateOf, settled, answered}
+use Rattle.engine.specs.Slot.{isHard, isGiven, isEmpty, isLost, rowServed, leftUsed, lates, settled, answered}
 use Rattle.engine.specs.Calls.{lateTotalOf}
 use Rattle.promise.specs.Runs.{Call, runOf, history, moment}
-use Rattle.promise.specs.History.{answerAt, lateCount}
+use Rattle.promise.specs.History.{answerAt}
 use Rattle.promise.specs.Starts.{Accepted, begin}
 use Rattle.promise.specs.Demands.{lateOfRow, rowEndsLate, Counted, Flagged}
 use Rattle.promise.proofs.Trail.{last-moment, trail}
-use Rattle.promise.proofs.Lane.{Ordered, Lane, lane-count, lane-flag}
+use Rattle.promise.proofs.Lane.{Ordered, lane-count, lane-flag}
 use Rattle.promise.proofs.Engine.{Tame, tame, lane, word-is, figure-run}
 use Rattle.promise.proofs.Starts.{formed}
 use Rattle.promise.proofs.Legal.{tallies-legal, none-late-past, run-legal, begin-legal}

@@ -1,22 +1,19 @@
 -- Each statement of specs/Demands.antt holds. Assumes nothing.
 use mathlib.Core.Path.{_≡_, refl, ap, sym, _∙_}
-use mathlib.Core.List.{List, [], _∷_, _++_}
+use mathlib.Core.List.{[], _∷_}
 use mathlib.Core.Bool.{Bool, true, false, cond}
-use Prim.Native.Nat.{ℕ, zero, suc, _≤_, _<_}
+use Prim.Native.Nat.{ℕ, zero, suc}
 use native.Mathlib.Omega.{arith}
 use lib.Dec.{eqb, leb, eqb·suc-zero}
-use Rattle.table.specs.declared.Table.{Table}
 use Rattle.engine.specs.declared.State.{State}
-use Rattle.engine.specs.declared.Answer.{Answer}
 use Rattle.engine.specs.declared.Slotted.{Slotted}
 use Rattle.engine.specs.declared.Requested.{Requested}
-use Rattle.engine.specs.declared.Use.the-variants.{Empty}
 use Rattle.engine.specs.States.{lastSlot}
 use Rattle.engine.specs.Legal.{legal}
-use Rattle.engine.specs.Slot.{slotRefusal, slotOf, settled, answered}
-use Rattle.engine.specs.Calls.{requestRefusal, requestOf, joined}
+use Rattle.engine.specs.Slot.{slotRefusal, slotOf, answered}
+use Rattle.engine.specs.Calls.{requestRefusal, requestOf}
 use Rattle.promise.specs.Runs.{Call, slot, request, step, said, runOf, history}
-use Rattle.promise.specs.Starts.{Accepted, begin}
+use Rattle.promise.specs.Starts.{begin}
 use Rattle.promise.specs.Demands.{Demand2, ByTheRules, Demand3a, NeverLate, Demand3b, Untouched, Demand1, LegalStays, NeverEleven}
 use Rattle.promise.proofs.Trail.{slot-run, slot-refused, request-run, request-refused, trail}
 use Rattle.promise.proofs.Starts.{formed}

@@ -1,10 +1,10 @@
 -- The engine's run is a lane: its figures at each slot are those that the table and the history give.
 use mathlib.Core.Path.{_≡_, refl, ap, sym, _∙_}
 use mathlib.Core.List.{List, [], _∷_}
-use mathlib.Core.Bool.{Bool, true, false, _&&_, not}
+use mathlib.Core.Bool.{Bool, _&&_, not}
 use Prim.Native.Nat.{ℕ, zero, suc, _+_, _-_, _≤_, _<_}
 use native.Mathlib.Omega.{arith}
-use lib.ListN.{length, replicate}
+use lib.ListN.{length}
 use Rattle.seq.specs.Places.{flag, at}
 use Rattle.seq.proofs.Places.{over-length}
 use Rattle.law.specs.Sums.{sum}
@@ -17,16 +17,12 @@ use Rattle.engine.specs.States.{with-figures}
 use Rattle.engine.specs.Legal.{ran}
 use Rattle.engine.specs.Slot.{isGive, rowServed, leftReleased, lates, leftJudged, counter₁, left₁, choiceOf, useOf, lateOf, settled, answered}
 use Rattle.promise.specs.Runs.{Call, runOf, history, moment}
-use Rattle.promise.specs.History.{answerAt, isRow, count}
+use Rattle.promise.specs.History.{answerAt, count}
 use Rattle.promise.specs.Starts.{begin}
-use Rattle.promise.proofs.Trail.{bare, first-moment, last-moment, Trail, trail}
+use Rattle.promise.proofs.Trail.{bare, first-moment, last-moment, trail}
 use Rattle.promise.proofs.Choice.{View, view, fits, places}
 use Rattle.promise.proofs.Lane.{judged-long, Lane}
-
-pub at-zeros : (n i : ℕ) → at (replicate n 0) i ≡ 0
-at-zeros zero i = refl
-at-zeros (suc n) zero = refl
-at-zeros (suc n) (suc i) = at-zeros n i
+use Rattle.promise.proofs.Starts.{at-zeros}
 
 -- a state of a run of table x with allowances k, before slot y
 pub record Tame (x : Table) (k : List ℕ) (y : ℕ) (z : State) : Type 0 where

@@ -1,37 +1,35 @@
 -- Demand 3, second half: a run that gives too much away is a lane and a run of the law, so that somebody is late in it.
 use mathlib.Core.Path.{_≡_, refl, ap, sym, _∙_}
 use mathlib.Core.List.{List}
-use mathlib.Core.Bool.{Bool, true, false, cond, _&&_, not, true≢false}
+use mathlib.Core.Bool.{Bool, true, false, _&&_, not, true≢false}
 use Prim.Native.Nat.{ℕ, zero, suc, _+_, _-_, _%_, _≤_, _<_}
 use native.Mathlib.Decide.{decLt, decLe, ℕ-discrete}
 use native.Mathlib.Omega.{arith}
 use lib.Dec.{eqb, ltb}
 use lib.ListN.{length, replicate}
 use borrow.Author.Tests.{eq-eqb, ne-eqb, lt-ltb, le-ltb, eqb-true, ltb-true}
-use Rattle.seq.specs.Places.{flag, at, tab}
+use Rattle.seq.specs.Places.{flag, at}
 use Rattle.seq.specs.Words.{bit}
 use Rattle.seq.proofs.Places.{every-true, over-length, tab-length, tab-at}
 use Rattle.seq.proofs.Tests.{both-true}
 use Rattle.law.specs.Sums.{sum}
-use Rattle.law.specs.Age.{released}
 use Rattle.law.specs.Work.{allowance}
 use Rattle.law.specs.Level.{backlog}
 use Rattle.law.specs.Forced.{Forced, LateAt, ForcedRun}
 use Rattle.law.proofs.Sums.{sum-zero}
 use Rattle.law.proofs.Laws.{tight}
-use Rattle.rows.specs.Rows.{rowsOf, idle, noneZero, ends, counted}
+use Rattle.rows.specs.Rows.{rowsOf, noneZero, ends, counted}
 use Rattle.rows.proofs.Idle.{idle-before}
 use Rattle.table.specs.declared.Table.{Table}
 use Rattle.engine.specs.declared.Answer.{Answer}
 use Rattle.engine.specs.declared.Use.{Use}
-use Rattle.engine.specs.declared.Use.the-variants.{Hard, Given, Empty, Lost}
-use Rattle.engine.specs.Slot.{chosen, isGive, rowServed, leftReleased, leftUsed, leftJudged}
+use Rattle.engine.specs.Slot.{chosen, isGive, rowServed, leftReleased}
 use Rattle.promise.specs.History.{answerAt, isRow, noAnswer}
 use Rattle.promise.specs.Forced.{forcedUse, forcedLeft, forcedWord, forcedAnswer, forcedHistory}
 use Rattle.promise.specs.Demands.{rowEndsLate}
-use Rattle.promise.proofs.Choice.{View, is-lost, is-given, is-hard, is-back, is-empty, view, fits, places, low, used-sum}
+use Rattle.promise.proofs.Starts.{at-zeros}
+use Rattle.promise.proofs.Choice.{View, is-lost, is-given, is-hard, is-back, is-empty, view, fits, places, used-sum}
 use Rattle.promise.proofs.Lane.{Ordered, Lane, judged-long, mids, uses, lane-mid, lane-used, lane-bit, lane-left, lane-flag}
-use Rattle.promise.proofs.Engine.{at-zeros}
 
 -- a point's sum
 sum-point : (f n : ℕ) → f < n → sum (λ h. flag (eqb (suc f) (suc h))) n ≡ 1

@@ -1,18 +1,17 @@
 -- The rows' figures through slots that are released, used and judged as the engine does it: each row's part is a run of the law. Both the
 -- engine's runs and those that give too much away are such.
-use mathlib.Core.Path.{_≡_, refl, ap, sym, _∙_}
+use mathlib.Core.Path.{_≡_, refl, _∙_}
 use mathlib.Core.List.{List}
-use mathlib.Core.Bool.{Bool, true, false, cond, _&&_, and-false}
-use Prim.Native.Nat.{ℕ, zero, suc, _+_, _-_, _≤_, _<_}
-use native.Mathlib.Decide.{decLt}
+use mathlib.Core.Bool.{Bool, true, false, cond, _&&_}
+use Prim.Native.Nat.{ℕ, suc, _+_, _-_, _≤_, _<_}
 use native.Mathlib.Omega.{arith}
-use lib.Dec.{eqb, ltb, leb}
-use lib.ListN.{length, getD}
-use Rattle.seq.specs.Places.{flag, at, tab}
+use lib.Dec.{eqb, ltb}
+use lib.ListN.{length}
+use Rattle.seq.specs.Places.{flag, at}
 use Rattle.seq.specs.Words.{word, bit}
 use Rattle.seq.proofs.Places.{over-length}
 use Rattle.law.specs.Age.{released}
-use Rattle.law.specs.Judge.{Judged, RowRun, Link}
+use Rattle.law.specs.Judge.{RowRun, Link}
 use Rattle.law.proofs.Age.{released-apart}
 use Rattle.law.proofs.Judge.{judged-periodic, link-run, link-flag}
 use Rattle.law.proofs.Laws.{late-counts}

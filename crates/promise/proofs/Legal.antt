@@ -1,15 +1,14 @@
 -- A legal state stays legal, whatever is called, and the start is legal.
-use mathlib.Core.Path.{_≡_, refl, ap, sym, _∙_}
+use mathlib.Core.Path.{_≡_, refl}
 use mathlib.Core.List.{List, [], _∷_}
-use mathlib.Core.Bool.{Bool, true, false, cond, _&&_, not, true≢false}
+use mathlib.Core.Bool.{Bool, true, false, cond, _&&_, not}
 use Prim.Native.Nat.{ℕ, zero, suc, _+_, _-_, _≤_, _<_, min}
 use native.Mathlib.Omega.{arith}
-use native.Mathlib.Numerals.{add-one}
 use native.Mathlib.Decide.{decLt}
-use lib.Dec.{eqb, ltb, leb, eqb·suc-zero}
-use lib.ListN.{length, getD, replicate}
-use borrow.Author.Tests.{eq-eqb, le-leb, lt-ltb, eqb-true, eqb-false, leb-true, leb-false, ltb-true, le-ltb}
-use Rattle.seq.specs.Places.{flag, at, tab, every}
+use lib.Dec.{ltb, leb}
+use lib.ListN.{length, replicate}
+use borrow.Author.Tests.{le-leb, lt-ltb, ltb-true, le-ltb}
+use Rattle.seq.specs.Places.{flag, at}
 use Rattle.seq.specs.Words.{bit}
 use Rattle.seq.proofs.Tests.{both-true}
 use Rattle.seq.proofs.Places.{every-at, every-true, tab-length, tab-at}
@@ -18,7 +17,6 @@ use Rattle.table.specs.declared.Table.{Table}
 use Rattle.table.specs.declared.Verdict.{Verdict}
 use Rattle.table.specs.declared.Verdict.the-variants.{Taken, Refused}
 use Rattle.table.specs.Verdicts.{taken}
-use Rattle.table.specs.Form.{formVerdict, formOf}
 use Rattle.rows.specs.Rows.{dueWord, charged, rowsKept, latesKept}
 use Rattle.rows.proofs.Points.{late-past}
 use Rattle.rows.proofs.Kept.{kept-bounds, bounds-kept, reloaded-kept, charged-kept, released-kept, worked-kept, dropped-kept, lates-say, lates-kept}
@@ -27,34 +25,15 @@ use Rattle.queue.proofs.Laid.{Sized, Laid, laid-proper, laid-served, laid-asked
 use Rattle.engine.specs.declared.State.{State}
 use Rattle.engine.specs.declared.Use.{Use}
 use Rattle.engine.specs.declared.Use.the-variants.{Hard, Given, Empty, Lost}
-use Rattle.engine.specs.States.{lastSlot, queue, tally, with-figures}
-use Rattle.engine.specs.Legal.{ran, tableLegal, talliesLegal, clockLegal, legal}
-use Rattle.engine.specs.Slot.{
-  isGive,
-  rowServed,
-  isHard,
-  isGiven,
-  isEmpty,
-  isLost,
-  leftReleased,
-  leftUsed,
-  lates,
-  leftJudged,
-  counter₁,
-  choiceOf,
-  useOf,
-  lateOf,
-  settled,
-  slotRefusal,
-  slotOf,
-}
+use Rattle.engine.specs.States.{lastSlot, queue, with-figures}
+use Rattle.engine.specs.Legal.{ran, legal}
+use Rattle.engine.specs.Slot.{isGive, rowServed, isHard, isGiven, isEmpty, isLost, leftReleased, leftUsed, lates, leftJudged, counter₁, choiceOf, useOf, lateOf, settled, slotRefusal, slotOf}
 use Rattle.engine.specs.Calls.{requestRefusal, joined, requestOf}
 use Rattle.engine.proofs.Legality.{Legal, legal-says, legal-is, slot-legal, request-legal}
 use Rattle.promise.specs.Runs.{Call, slot, request, step, runOf}
 use Rattle.promise.specs.Starts.{Accepted, begin}
 use Rattle.promise.proofs.Trail.{slot-run, slot-refused, request-run, request-refused}
-use Rattle.promise.proofs.Starts.{Formed, formed}
-use Rattle.promise.proofs.Engine.{at-zeros}
+use Rattle.promise.proofs.Starts.{at-zeros, formed}
 
 taken-is : (v : Verdict) → taken v true false ≡ true → v ≡ Taken
 taken-is Taken e = refl

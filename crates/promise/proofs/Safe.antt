@@ -1,18 +1,17 @@
 -- Demand 3, first half: row i through a run is a run of the law, so each of its instances gets what it needs by its deadline.
 use mathlib.Core.Path.{_≡_, refl, ap, sym, _∙_}
-use mathlib.Core.List.{List}
-use mathlib.Core.Bool.{Bool, true, false, cond, _&&_, not, true≢false, and-false}
+use mathlib.Core.List.{List, [], _∷_}
+use mathlib.Core.Bool.{Bool, true, false, cond, _&&_, not, true≢false}
 use Prim.Native.Nat.{ℕ, zero, suc, _+_, _*_, _-_, _≤_, _<_}
 use native.Mathlib.Nat.{mul-mod-left}
 use native.Mathlib.Decide.{decLt}
 use native.Mathlib.Omega.{arith}
-use lib.Dec.{ltb, leb}
+use lib.Dec.{leb}
 use lib.ListN.{length}
 use borrow.Author.Tests.{eq-eqb, lt-ltb, le-ltb, le-leb, leb-true}
-use Rattle.seq.specs.Places.{flag, at, tab}
+use Rattle.seq.specs.Places.{flag, at}
 use Rattle.seq.specs.Words.{word, bit}
 use Rattle.seq.proofs.Tests.{both-true}
-use Rattle.law.specs.Sums.{sum}
 use Rattle.law.specs.Age.{released}
 use Rattle.law.specs.Judge.{tooFew}
 use Rattle.law.specs.Level.{backlog, Run}
@@ -20,15 +19,16 @@ use Rattle.law.proofs.Sums.{sum-zero, term-le}
 use Rattle.law.proofs.Work.{allowance-holds}
 use Rattle.law.proofs.Age.{released-apart}
 use Rattle.law.proofs.Laws.{row-promise}
-use Rattle.rows.specs.Rows.{rowsOf, idle, reloaded, charged}
+use Rattle.rows.specs.Rows.{rowsOf, idle, reloaded}
 use Rattle.rows.proofs.Points.{reloaded-at, charged-at}
 use Rattle.table.specs.declared.Table.{Table}
 use Rattle.engine.specs.declared.State.{State}
 use Rattle.engine.specs.declared.Answer.{Answer}
+use Rattle.engine.specs.declared.Use.{Use}
 use Rattle.engine.specs.States.{with-figures}
 use Rattle.engine.specs.Slot.{isGive, isLost, counter₁, left₁, choiceOf, useOf, settled}
 use Rattle.promise.specs.Runs.{Call, history, moment}
-use Rattle.promise.specs.History.{answerAt, isRow, hit, got, NoneLost}
+use Rattle.promise.specs.History.{answerAt, hit, got, count, NoneLost}
 use Rattle.promise.specs.Starts.{Accepted, begin}
 use Rattle.promise.specs.Demands.{lateOfRow, rowEndsLate, InTime, Spared}
 use Rattle.promise.proofs.Trail.{trail}
@@ -144,11 +144,25 @@ module _ (x : Table) (k : List ℕ) (a : Accepted x k) (i : ℕ) (r : i < x .n) 
         none = sym (lane-count ordered (lane x k calls) i r) ∙ y .0;
       }
 
--- where no slot is lost every row is spared
+-- where a kind of slot is not counted there is none
+count-none : (kind : Use → Bool) (l : List Answer) → count kind l ≡ 0 → (y : ℕ) → y < length l → kind (answerAt l y .used) ≡ false
+unfolding count
+count-none kind [] e y p = absurd (omega arith)
+count-none kind (a ∷ l) e zero p = unset (kind (a .used)) (omega (arith, e))
+  where
+    unset : (b : Bool) → flag b ≡ 0 → b ≡ false
+    unset true f = absurd (omega arith)
+    unset false f = refl
+count-none kind (a ∷ l) e (suc y) p = count-none kind l (omega (arith, e)) y (omega arith)
+
+-- so where no slot is lost every row is spared
 pub spared-all : (x : Table) (k : List ℕ) (calls : List Call) → NoneLost (history (begin x k) calls) → (i : ℕ) → Spared (begin x k) calls i
 unfolding useOf
 spared-all x k calls g i y p e =
-    absurd (true≢false (sym (ap isLost (used-is x k calls y p ∙ ap (λ (b : Bool). useOf (moment (begin x k) calls y .state) b) e)) ∙ g y p))
+    absurd
+    (true≢false
+    (sym (ap isLost (used-is x k calls y p ∙ ap (λ (b : Bool). useOf (moment (begin x k) calls y .state) b) e))
+    ∙ count-none isLost (history (begin x k) calls) g y p))
 
 -- a slot with which a late instance ends counts
 ends-counted : (x : Table) (h : List Answer) (i y : ℕ) → 1 ≤ at (x .d) i → y < length h → rowEndsLate x h y i ≡ true → 1 ≤ lateOfRow x h i

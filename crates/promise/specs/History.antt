@@ -1,9 +1,9 @@
 -- What a history of answers says by itself, without any state. Slot x is the one before which x slots were run; rows are counted
 -- from 0. C, T and D are a row's figures.
-use Prim.Native.Nat.{ℕ, suc, _+_, _<_}
+use Prim.Native.Nat.{ℕ, suc, _+_}
 use mathlib.Core.Path.{_≡_}
 use mathlib.Core.List.{List, [], _∷_}
-use mathlib.Core.Bool.{Bool, true, false}
+use mathlib.Core.Bool.{Bool, false}
 use lib.Dec.{eqb}
 use lib.ListN.{length, getD}
 use Rattle.seq.specs.Places.{flag}
@@ -51,4 +51,4 @@ count p [] = 0
 count p (a ∷ h) = flag (p (a .used)) + count p h
 
 abbrev pub NoneLost : List Answer → Type 0
-NoneLost h = (x : ℕ) → x < length h → isLost (answerAt h x .used) ≡ false
+NoneLost h = count isLost h ≡ 0

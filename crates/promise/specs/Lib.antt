@@ -3,3 +3,4 @@ pub mod History
 pub mod Starts
 pub mod Forced
 pub mod Demands
+pub mod Cases

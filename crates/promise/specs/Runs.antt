@@ -1,7 +1,7 @@
 -- Runs: any list of calls on a state, and the history of the answers. Each call is the engine's own.
 use Prim.Native.Nat.{ℕ, _-_}
 use mathlib.Core.List.{List, [], _∷_, _++_}
-use mathlib.Core.Bool.{Bool, true, false, cond}
+use mathlib.Core.Bool.{Bool, false, cond}
 use lib.Dec.{eqb, ltb}
 use lib.ListN.{length}
 use Rattle.engine.specs.declared.State.{State}
