@@ -10,7 +10,8 @@ use lib.Seq.{getD-set-same, getD-set-other, ext-getD, getD-append-seam}
 use lib.Dec.{eqb, ltb, leb}
 use borrow.Author.Tests.{lt-ltb, le-ltb, le-leb, ltb-true, ltb-false, leb-true, eqb-true, eqb-false}
 use Rattle.seq.specs.Places.{flag, at, tab, over, every}
-use Rattle.seq.proofs.Places.{tab-length, tab-at, over-length, over-in, over-out, over-same, both-true, every-at, every-true}
+use Rattle.seq.proofs.Tests.{both-true}
+use Rattle.seq.proofs.Places.{tab-length, tab-at, over-length, over-in, over-out, over-same, every-at, every-true}
 use Rattle.queue.specs.Queue.{Request, noRequest, asked, served, namesOf, sizesOf, waiting, placeProper, proper, last, lowered, shifted, placed}
 
 -- one figure of the requests, laid out; it is zero where there is no request

@@ -8,7 +8,8 @@ use lib.Dec.{eqb, ltb, leb, leb·suc-zero, eqb·suc-zero}
 use borrow.Author.Tests.{eq-eqb, lt-ltb, le-ltb, le-leb, ltb-true, ltb-false, leb-true, eqb-true}
 use Rattle.seq.specs.Places.{flag, at, over}
 use Rattle.seq.specs.Words.{bit}
-use Rattle.seq.proofs.Places.{over-either, both-true, every-at, every-true}
+use Rattle.seq.proofs.Tests.{both-true}
+use Rattle.seq.proofs.Places.{over-either, every-at, every-true}
 use Rattle.seq.proofs.Words.{flag-le}
 use Rattle.rows.specs.Rows.{rowsOf, idle, reloaded, released, charged, worked, dropped, counted, rowKept, rowsKept, latesKept}
 use Rattle.rows.proofs.Counts.{Within}

@@ -2,3 +2,4 @@ pub mod Idle
 pub mod Counts
 pub mod Points
 pub mod Kept
+pub mod Outcomes

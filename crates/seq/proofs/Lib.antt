@@ -2,3 +2,5 @@ pub mod Places
 pub mod Words
 pub mod Bytes
 pub mod Tests
+pub mod Outcomes
+pub mod OwnOutcomes

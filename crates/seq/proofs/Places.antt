@@ -2,12 +2,21 @@
 use mathlib.Core.Path.{_≡_, refl, sym, ap}
 use mathlib.Core.List.{List, [], _∷_, _++_}
 use mathlib.Core.Bool.{Bool, true, false, cond, _&&_, and-true, and-false, and-assoc}
-use Prim.Native.Nat.{ℕ, zero, suc, _+_, _≤_, _<_, min}
+use Prim.Native.Nat.{ℕ, zero, suc, _+_, _≤_, _<_, min, _-_}
 use native.Mathlib.Numerals.{add-one}
 use native.Mathlib.Omega.{arith}
 use native.Mathlib.Nat.{zero-min, min-zero, suc-min-suc}
-use lib.ListN.{length, getD, set}
-use Rattle.seq.specs.Places.{tab, over, lead, every}
+use lib.ListN.{length, getD, set, replicate, take, drop, length-drop}
+use lib.Seq.{ext-getD, take-all, take-nil}
+use Rattle.seq.specs.Places.{at, tab, over, lead, every}
+use Rattle.seq.proofs.Tests.{both-true}
+use borrow.Author.Tests.{leb-true, leb-false, le-leb, lt-leb}
+use lib.Dec.{leb}
+
+pub at-zeros : (n i : ℕ) → at (replicate n 0) i ≡ 0
+at-zeros zero i = refl
+at-zeros (suc n) zero = refl
+at-zeros (suc n) (suc i) = at-zeros n i
 
 module _ {A : Type 0} where
   pub tab-length : (n : ℕ) (f : ℕ → A) → length (tab n f) ≡ n
@@ -54,6 +63,17 @@ module _ {A : Type 0} where
   over-min (suc n) f [] = rw min-zero
   over-min (suc n) f (x ∷ l) = rw (suc-min-suc n (length l), over-min n (λ i. f (suc i)) l)
 
+  -- what it comes to
+  pub over-is : (d : A) (n : ℕ) (f : ℕ → A → A) (l k : List A) → length l ≡ length k → ((i : ℕ) → i < n → i < length l → f i (getD l i d) ≡ getD k i d)
+      → ((i : ℕ) → n ≤ i → i < length l → getD l i d ≡ getD k i d) → over n f l ≡ k
+  unfolding over
+  over-is d zero f l k e a b = ext-getD d l k e (λ i h. b i (omega arith) h)
+  over-is d (suc n) f [] [] e a b = refl
+  over-is d (suc n) f [] (y ∷ k) e a b = absurd (omega arith)
+  over-is d (suc n) f (x ∷ l) [] e a b = absurd (omega arith)
+  over-is d (suc n) f (x ∷ l) (y ∷ k) e a b =
+      rw (a 0 (omega arith) (omega arith), over-is d n (λ i. f (suc i)) l k (omega arith) (λ i h g. a (suc i) (omega arith) (omega arith)) (λ i h g. b (suc i) (omega arith) (omega arith)))
+
   over-set : (d : A) (n : ℕ) (f : ℕ → A → A) (l : List A) → set (over n f l) n (f n (getD l n d)) ≡ over (suc n) f l
   unfolding over
   over-set d zero f [] = refl
@@ -99,6 +119,17 @@ module _ {A : Type 0} where
   over-one d (suc n) f (x ∷ l) zero v h e g = rw (e, ← over-same n (λ i. f (suc i)) l (λ i y h. g (suc i) y (λ q. omega arith)))
   over-one d (suc n) f (x ∷ l) (suc r) v h e g = rw (g 0 x (λ q. omega arith)) (ap (λ (k : List A). x ∷ k) (over-one d n (λ i. f (suc i)) l r v (omega arith) e (λ i y q. g (suc i) y (λ p. q (omega arith)))))
 
+  -- the part that starts at p and has all that follows
+  pub rest-part : (p : ℕ) (l : List A) → take (length l - p) (drop p l) ≡ drop p l
+  rest-part p l = take-all (length l - p) (drop p l) (rw (length-drop p l) (omega arith))
+
+  -- the first i, of which there may be fewer
+  pub take-most : (i n : ℕ) (l : List A) → n ≡ min i (length l) → take n l ≡ take i l
+  take-most i n [] e = rw (take-nil {A = A} n, take-nil {A = A} i)
+  take-most zero n (x ∷ l) e = let z : n ≡ 0 = omega arith in rw z
+  take-most (suc i) zero (x ∷ l) e = absurd (omega arith)
+  take-most (suc i) (suc n) (x ∷ l) e = ap (λ (k : List A). x ∷ k) (take-most i n l (omega arith))
+
 -- the first that has not p
 step-most : (b : Bool) {x n : ℕ} → x ≤ n → cond b (suc x) 0 ≤ suc n
 step-most true h = omega arith
@@ -140,11 +171,15 @@ lead-all zero p g i h = absurd (omega arith)
 lead-all (suc n) p g zero h = step-all (p 0) (lead-most n (λ i. p (suc i))) g .0
 lead-all (suc n) p g (suc i) h = lead-all n (λ i. p (suc i)) (step-all (p 0) (lead-most n (λ i. p (suc i))) g .1) i (omega arith)
 
--- a test of all the first places
-pub both-true : (a b : Bool) → a && b ≡ true → (a ≡ true) × (b ≡ true)
-both-true true b e = (refl, e)
-both-true false b e = absurd (let z : _≡_ {A = ℕ} 0 1 = cc in omega arith)
+-- two comparisons that say the same
+pub leb-alike : (a b c d : ℕ) → (c ≤ d → a ≤ b) → (d < c → b < a) → leb a b ≡ leb c d
+leb-alike a b c d f g = go (leb c d) refl
+  where
+    go : (t : Bool) → leb c d ≡ t → leb a b ≡ leb c d
+    go true e = rw (e, le-leb a b (f (leb-true c d e)))
+    go false e = rw (e, lt-leb a b (g (leb-false c d e)))
 
+-- a test of all the first places
 every-suc : (n : ℕ) (p : ℕ → Bool) → every (suc n) p ≡ every n p && p n
 unfolding every
 every-suc zero p = and-true (p 0)
@@ -195,3 +230,15 @@ pub lead-stop : (n : ℕ) (p : ℕ → Bool) → lead n p < n → p (lead n p) �
 unfolding lead
 lead-stop zero p h = absurd (omega arith)
 lead-stop (suc n) p h = step-stop p (p 0) refl (lead-stop n (λ i. p (suc i))) h
+
+-- and it is the only such number
+pub lead-is : (n : ℕ) (p : ℕ → Bool) (i : ℕ) → i < n → p i ≡ false → ((j : ℕ) → j < i → p j ≡ true) → lead n p ≡ i
+unfolding lead
+lead-is zero p i h e f = absurd (omega arith)
+lead-is (suc n) p zero h e f = rw e
+lead-is (suc n) p (suc i) h e f = rw (f 0 (omega arith)) (ap suc (lead-is n (λ j. p (suc j)) i (omega arith) e (λ j k. f (suc j) (omega arith))))
+
+pub lead-full : (n : ℕ) (p : ℕ → Bool) → ((i : ℕ) → i < n → p i ≡ true) → lead n p ≡ n
+unfolding lead
+lead-full zero p f = refl
+lead-full (suc n) p f = rw (f 0 (omega arith)) (ap suc (lead-full n (λ i. p (suc i)) (λ i h. f (suc i) (omega arith))))

@@ -1,3 +1,6 @@
 pub mod Verdicts
 pub mod Form
 pub mod Record
+pub mod WellFormed
+pub mod Refusals
+pub mod Theorems

@@ -1,0 +1,2 @@
+pub mod Legality
+pub mod Ran

@@ -1,0 +1,187 @@
+-- The values that the calls of a slot leave are the parts of the settled state and its answer; so for a request.
+use mathlib.Core.Path.{_≡_, ap, _∙_}
+use mathlib.Core.List.{List}
+use mathlib.Core.Bool.{Bool, true, false, cond, _&&_, not}
+use Prim.Native.Nat.{ℕ, _+_, _-_, _≤_, _<_}
+use native.Mathlib.Numerals.{add-one}
+use native.Mathlib.Omega.{arith}
+use lib.ListN.{length}
+use lib.Dec.{ltb}
+use lib.Count.{ones}
+use Rattle.seq.specs.Places.{flag, at}
+use Rattle.rows.specs.declared.Marks.{Marks}
+use Rattle.rows.specs.Rows.{rowsOf, idle, reloaded, dueWord, endWord, released, noneZero, charged, worked, lateWord, dropped, counted, raised, up}
+use Rattle.rows.proofs.Idle.{idle-most}
+use Rattle.rows.proofs.Counts.{up-exact, raised-counted}
+use Rattle.queue.specs.Queue.{Request, served, last, lowered, shifted, placed}
+use Rattle.queue.proofs.Laid.{Laid, proper-laid, laid-served, laid-asked}
+use Rattle.engine.specs.declared.State.{State}
+use Rattle.engine.specs.declared.Answer.{Answer}
+use Rattle.engine.specs.declared.Slotted.{Slotted}
+use Rattle.engine.specs.declared.Choice.{Choice}
+use Rattle.engine.specs.declared.Choice.the-variants as choice
+use Rattle.engine.specs.declared.Use.{Use}
+use Rattle.engine.specs.States.{queue, with-figures}
+use Rattle.engine.specs.Legal.{ran}
+use Rattle.engine.specs.Slot.{chosen, isGive, chosenUse, usedFor, rowServed, isHard, isGiven, isEmpty, isLost, leftReleased, leftUsed, lates, leftJudged, counter₁, left₁, choiceOf, useOf, lateOf, settled, answered}
+use Rattle.engine.specs.Calls.{joined}
+use Rattle.engine.proofs.Legality.{Legal, late-low}
+
+-- the row chosen is one of the sixteen
+pub chosen-place : (n count : ℕ) (left counter : List ℕ) (name : ℕ) → rowServed (chosenUse (chosen n count left counter) name) ≤ 16
+unfolding chosen
+chosen-place n count left counter name =
+    split (ltb 0 count && noneZero n counter) (ltb (idle n left) (rowsOf n)) (ltb 0 count) (idle n left) (let y = idle-most n left in omega arith)
+  where
+    split : (a b d : Bool) (i : ℕ) → i ≤ 16 → rowServed (chosenUse (cond a choice.Give (cond b (choice.Hard i) (cond d choice.Back choice.Idle))) name) ≤ 16
+    split true b d i h = omega arith
+    split false true d i h = omega arith
+    split false false true i h = omega arith
+    split false false false i h = omega arith
+
+module _ (s : State) (g : Legal s) (names-long : length (s .names) ≡ 32) (sizes-long : length (s .sizes) ≡ 32) where
+  abbrev Slot-queue : Bool → List Request
+  Slot-queue on = cond on (served (queue s)) (queue s)
+
+  laid : Laid (s .count) (s .names) (s .sizes) (queue s)
+  laid = proper-laid (s .count) (s .names) (s .sizes) (g .queue) names-long sizes-long
+
+  -- the queue's places after a slot
+  served-places :
+      (on : Bool) {dn : Bool} {z₁ z₂ names : List ℕ} {count : ℕ}
+      → dn ≡ last on (at (s .sizes) 0)
+      → z₁ ≡ lowered on (s .sizes)
+      → z₂ ≡ shifted dn z₁
+      → names ≡ shifted dn (s .names)
+      → count ≡ s .count - flag dn
+      → Laid count names z₂ (Slot-queue on)
+  served-places on e-dn e-z e-z2 e-names e-count = rw (e-count, e-names, e-z2, e-z, e-dn) (laid-served laid on)
+
+  -- late counts and tallies do not wrap
+  late-exact : (w : ℕ) {late : List ℕ} → late ≡ raised w (s .late) → late ≡ counted w (s .late)
+  late-exact w e = let k = g .clock in e ∙ raised-counted w (s .late) (late-low s g) (omega arith)
+
+  tally-exact : (on : Bool) (x : ℕ) {y : ℕ} → x ≤ ran s → y ≡ up on x → y ≡ x + flag on
+  tally-exact on x h e = let k = g .clock in e ∙ up-exact on x (omega arith)
+
+  module _ (lost : Bool) where
+    pub ran-is :
+        {m : ℕ} {k₁ l₁ k₂ l₂ z₁ z₂ names l₃ late : List ℕ} {b : Marks} {x : Choice} {v : Use} {on dn pays ih ie il : Bool} {row count w hard given empty gone : ℕ} {a : Answer}
+        → m ≡ ran s
+        → k₁ ≡ reloaded (s .n) (s .left) (s .k) (s .counter)
+        → b ≡ record { due = dueWord m (s .n) (s .t); end = endWord m (s .n) (s .t) (s .d) }
+        → l₁ ≡ released (b .due) (s .c) (s .left)
+        → x ≡ chosen (s .n) (s .count) l₁ k₁
+        → v ≡ usedFor lost x (at (s .names) 0)
+        → on ≡ isGiven v
+        → dn ≡ last on (at (s .sizes) 0)
+        → pays ≡ isGive x && not lost
+        → k₂ ≡ charged pays k₁
+        → row ≡ rowServed v
+        → l₂ ≡ worked row l₁
+        → z₁ ≡ lowered on (s .sizes)
+        → z₂ ≡ shifted dn z₁
+        → names ≡ shifted dn (s .names)
+        → count ≡ s .count - flag dn
+        → w ≡ lateWord (b .end) l₂
+        → l₃ ≡ dropped w l₂
+        → late ≡ raised w (s .late)
+        → ih ≡ isHard v
+        → hard ≡ up ih (s .hard)
+        → given ≡ up on (s .given)
+        → ie ≡ isEmpty v
+        → empty ≡ up ie (s .empty)
+        → il ≡ isLost v
+        → gone ≡ up il (s .lost)
+        → a ≡ record { number = 0; used = v; word = w; late = ones w }
+        → _≡_ {A = Slotted}
+        (record {
+          state =
+              record {
+                n = s .n;
+                next = s .next + 1;
+                c = s .c;
+                t = s .t;
+                d = s .d;
+                k = s .k;
+                left = l₃;
+                counter = k₂;
+                late = late;
+                count = count;
+                names = names;
+                sizes = z₂;
+                hard = hard;
+                given = given;
+                empty = empty;
+                lost = gone;
+              };
+          answer = a;
+        })
+        (record { state = settled s lost; answer = answered s lost })
+    unfolding settled answered with-figures lateOf useOf choiceOf left₁ counter₁ leftJudged lates leftUsed leftReleased
+    ran-is {on = on} {ih = ih} {ie = ie} {il = il} {w = w} e-m e-k e-b e-l e-x e-v e-on e-dn e-pays e-k2 e-row e-l2 e-z e-z2 e-names e-count e-w e-l3 e-late e-ih e-hard e-given e-ie e-empty e-il e-gone e-a =
+        let due = ap (λ (q : Marks). q .due) e-b in
+        let end = ap (λ (q : Marks). q .end) e-b in
+        let t = g .tallies in
+        let places = served-places on e-dn e-z e-z2 e-names e-count in
+        rw (
+          add-one (s .next),
+          ← e-m,
+          ← e-k,
+          ← due,
+          ← end,
+          ← e-l,
+          ← e-x,
+          ← e-v,
+          ← e-on,
+          ← e-pays,
+          ← e-k2,
+          ← e-row,
+          ← e-l2,
+          ← e-w,
+          ← e-l3,
+          ← late-exact w e-late,
+          ← places .count-is,
+          ← places .names-is,
+          ← places .sizes-is,
+          ← e-ih,
+          ← tally-exact ih (s .hard) (omega arith) e-hard,
+          ← tally-exact on (s .given) (omega arith) e-given,
+          ← e-ie,
+          ← tally-exact ie (s .empty) (omega arith) e-empty,
+          ← e-il,
+          ← tally-exact il (s .lost) (omega arith) e-gone,
+          ← e-a,
+        )
+
+  module _ (name size : ℕ) where
+    pub joined-is :
+        {names sizes : List ℕ}
+        → 1 ≤ size
+        → s .count < 32
+        → names ≡ placed (s .count) name (s .names)
+        → sizes ≡ placed (s .count) size (s .sizes)
+        → _≡_ {A = State}
+        (record {
+          n = s .n;
+          next = s .next;
+          c = s .c;
+          t = s .t;
+          d = s .d;
+          k = s .k;
+          left = s .left;
+          counter = s .counter;
+          late = s .late;
+          count = s .count + 1;
+          names = names;
+          sizes = sizes;
+          hard = s .hard;
+          given = s .given;
+          empty = s .empty;
+          lost = s .lost;
+        })
+        (joined s name size)
+    unfolding joined with-figures
+    joined-is h f e-names e-sizes =
+        let y = laid-asked laid (record { name = name; size = size }) f h in
+        rw (e-names, e-sizes, y .count-is, y .names-is, y .sizes-is)

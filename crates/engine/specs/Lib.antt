@@ -1,0 +1,4 @@
+pub mod States
+pub mod Legal
+pub mod Slot
+pub mod Calls

@@ -1,0 +1,4 @@
+pub mod Told
+pub mod Run
+pub mod Vectors
+pub mod Outcomes

@@ -1,0 +1,5 @@
+pub mod Numbers
+pub mod Laid
+pub mod Fit
+pub mod Vectors
+pub mod Outcomes
