@@ -14,6 +14,11 @@ use Rattle.law.specs.Sums.{sum}
 use Rattle.rows.specs.Rows.{lateWord, total}
 use Rattle.rows.proofs.Points.{late-past}
 use Rattle.table.specs.declared.Table.{Table}
+use Rattle.table.specs.declared.Verdict.the-variants.{Taken}
+use Rattle.table.specs.WellFormed.{WellFormed}
+use Rattle.allowance.specs.Test.{testOf}
+use Rattle.allowance.proofs.Tests.{taken-well, verdict-form, verdict-rows, each-is, each-holds}
+use Rattle.engine.specs.Start.{blank, begun}
 use Rattle.engine.specs.declared.State.{State}
 use Rattle.engine.specs.declared.Answer.{Answer}
 use Rattle.engine.specs.States.{with-figures}
@@ -22,13 +27,11 @@ use Rattle.engine.specs.Slot.{isHard, isGiven, isEmpty, isLost, rowServed, left
 use Rattle.engine.specs.Calls.{lateTotalOf}
 use Rattle.promise.specs.Runs.{Call, runOf, history, moment}
 use Rattle.promise.specs.History.{answerAt}
-use Rattle.promise.specs.Starts.{Accepted, begin}
 use Rattle.promise.specs.Demands.{lateOfRow, rowEndsLate, Counted, Flagged}
 use Rattle.promise.proofs.Trail.{last-moment, trail}
-use Rattle.promise.proofs.Lane.{Ordered, lane-count, lane-flag}
+use Rattle.promise.proofs.Lane.{lane-count, lane-flag}
 use Rattle.promise.proofs.Engine.{Tame, tame, lane, word-is, figure-run}
-use Rattle.promise.proofs.Starts.{formed}
-use Rattle.promise.proofs.Legal.{tallies-legal, none-late-past, run-legal, begin-legal}
+use Rattle.promise.proofs.Legal.{tallies-legal, none-late-past, run-legal, start-legal}
 
 -- a word of flags that are not set from n on
 tab-same : {A : Type 0} (n : ℕ) (f g : ℕ → A) → ((i : ℕ) → i < n → f i ≡ g i) → tab n f ≡ tab n g
@@ -67,36 +70,39 @@ total-cut l n (suc m) e =
     rw k (omega (arith, total-cut l n m (λ i g h. e i g (omega arith)), e (n + m) (omega arith) (omega arith)))
 
 -- a run from the start of an accepted table
-module _ (x : Table) (k : List ℕ) (a : Accepted x k) (calls : List Call) where
+module _ (x : Table) (a : testOf x .verdict ≡ Taken) (calls : List Call) where
+  abbrev k : List ℕ
+  k = testOf x .each
+
   abbrev h : List Answer
-  h = history (begin x k) calls
+  h = history (begun x k) calls
 
   abbrev end : State
-  end = runOf (begin x k) calls
+  end = runOf (begun x k) calls
 
-  ordered : Ordered (x .n) (x .c) (x .t) (x .d)
-  ordered = formed (x .n) (x .c) (x .t) (x .d) (a .well-formed) .ordered
+  ordered : WellFormed (x .n) (x .c) (x .t) (x .d)
+  ordered = taken-well x (verdict-form x a)
 
   end-tame : Tame x k (length h) end
-  end-tame = rw (last-moment calls (begin x k)) at (tame x k calls (length h) (omega arith))
+  end-tame = rw (last-moment calls (begun x k)) at (tame x k calls (length h) (omega arith))
 
   end-legal : legal end ≡ true
-  end-legal = run-legal (begin x k) (begin-legal x k a) calls
+  end-legal = run-legal (begun x k) (start-legal x a) calls
 
   pub late-run : (i : ℕ) → i < x .n → at (end .late) i ≡ lateOfRow x h i
-  late-run i r = rw (last-moment calls (begin x k)) at (lane-count ordered (lane x k calls) i r)
+  late-run i r = rw (last-moment calls (begun x k)) at (lane-count ordered (lane x k calls) i r)
 
   total-run : lateTotalOf end ≡ record { number = 0; total = sum (lateOfRow x h) (x .n) }
   unfolding lateTotalOf
   total-run =
-      let n : x .n + (16 - x .n) ≡ 16 = omega (arith, ordered .few) in
+      let n : x .n + (16 - x .n) ≡ 16 = omega (arith, ordered .counted .1) in
       let e : total 16 (end .late) ≡ sum (lateOfRow x h) (x .n) =
       rw n at (total-cut (end .late) (x .n) (16 - x .n) (λ i g q. none-late-past end end-legal i (omega (arith, end-tame .n-same)) (omega arith)))
       ∙ total-sum (end .late) (lateOfRow x h) (x .n) late-run in
       rw (end-legal, e)
 
   pub counted-run : Counted x end h
-  unfolding settled with-figures
+  unfolding blank settled with-figures
   counted-run =
       record {
         lates = late-run;
@@ -113,12 +119,12 @@ module _ (x : Table) (k : List ℕ) (a : Accepted x k) (calls : List Call) where
   unfolding lates lateWord
   word-run y p =
       let e = lane x k calls .word-is y p in
-      e ∙ word-told _ (rowEndsLate x h y) (x .n) (ordered .few) (λ i r. rw e at (lane-flag ordered (lane x k calls) i r y p))
-      (λ i g q. late-past i y (x .n) (x .t) (x .d) (leftUsed y (x .n) (x .c) (x .t) (x .d) (rowServed (answerAt h y .used)) (moment (begin x k) calls y .state .left)) g q)
+      e ∙ word-told _ (rowEndsLate x h y) (x .n) (ordered .counted .1) (λ i r. rw e at (lane-flag ordered (lane x k calls) i r y p))
+      (λ i g q. late-past i y (x .n) (x .t) (x .d) (leftUsed y (x .n) (x .c) (x .t) (x .d) (rowServed (answerAt h y .used)) (moment (begun x k) calls y .state .left)) g q)
 
   number-run : (y : ℕ) → y < length h → answerAt h y .late ≡ ones (answerAt h y .word)
   unfolding answered
-  number-run y p = let e = trail calls (begin x k) y p .answer in ap (λ (z : Answer). z .late) e ∙ ap (λ (z : Answer). ones (z .word)) (sym e)
+  number-run y p = let e = trail calls (begun x k) y p .answer in ap (λ (z : Answer). z .late) e ∙ ap (λ (z : Answer). ones (z .word)) (sym e)
 
   pub flagged-run : (y : ℕ) → y < length h → Flagged x h y
   flagged-run y p =

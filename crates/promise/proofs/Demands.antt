@@ -5,6 +5,11 @@ use mathlib.Core.Bool.{Bool, true, false, cond}
 use Prim.Native.Nat.{ℕ, zero, suc}
 use native.Mathlib.Omega.{arith}
 use lib.Dec.{eqb, leb, eqb·suc-zero}
+use Rattle.table.specs.declared.Table.{Table}
+use Rattle.table.specs.declared.Verdict.the-variants.{Taken}
+use Rattle.allowance.specs.Test.{testOf}
+use Rattle.allowance.proofs.Tests.{taken-well, verdict-form, each-is, k-met}
+use Rattle.engine.specs.Start.{begun, startOf}
 use Rattle.engine.specs.declared.State.{State}
 use Rattle.engine.specs.declared.Slotted.{Slotted}
 use Rattle.engine.specs.declared.Requested.{Requested}
@@ -13,31 +18,43 @@ use Rattle.engine.specs.Legal.{legal}
 use Rattle.engine.specs.Slot.{slotRefusal, slotOf, answered}
 use Rattle.engine.specs.Calls.{requestRefusal, requestOf}
 use Rattle.promise.specs.Runs.{Call, slot, request, step, said, runOf, history}
-use Rattle.promise.specs.Starts.{begin}
-use Rattle.promise.specs.Demands.{Demand2, ByTheRules, Demand3a, NeverLate, Demand3b, Untouched, Demand1, LegalStays, NeverEleven}
+use Rattle.promise.specs.History.{NoneLost}
+use Rattle.promise.specs.Demands.{Starts, Demand2, ByTheRules, Demand3a, NeverLate, Demand3b, Untouched, Demand1, LegalStays, NeverEleven}
 use Rattle.promise.proofs.Trail.{slot-run, slot-refused, request-run, request-refused, trail}
-use Rattle.promise.proofs.Starts.{formed}
-use Rattle.promise.proofs.Legal.{run-legal, begin-legal}
+use Rattle.promise.proofs.Legal.{run-legal, start-legal}
 use Rattle.promise.proofs.Counts.{counted-run, flagged-run}
 use Rattle.promise.proofs.Safe.{in-time, spared-all, words-zero}
 use Rattle.promise.proofs.Forced.{forced-late}
 
+-- an accepted table is one that passes the test, and its runs start with its allowances
+start-is : (x : Table) → Starts x → startOf x .state ≡ begun x (testOf x .each)
+unfolding startOf
+start-is x e = rw e
+
+passes : (x : Table) → Starts x → testOf x .verdict ≡ Taken
+unfolding startOf
+passes x e = e
+
 pub demand2 : Demand2
-demand2 x k a calls = (counted-run x k a calls, flagged-run x k a calls)
+demand2 x e calls = rw (start-is x e) (counted-run x (passes x e) calls, flagged-run x (passes x e) calls)
 
 pub by-the-rules : ByTheRules
 by-the-rules s calls y p = trail calls s y p .answer
 
 pub demand3a : Demand3a
-demand3a x k a calls g = (λ i r. in-time x k a i r calls (spared-all x k calls g i), words-zero x k a calls g)
+demand3a x e calls g =
+    let v : NoneLost (history (begun x (testOf x .each)) calls) = rw (start-is x e) at g in
+    rw (start-is x e) (λ i r. in-time x (passes x e) i r calls (spared-all x (testOf x .each) calls v i), words-zero x (passes x e) calls v)
 
 pub never-late : NeverLate
-never-late x k a i r calls g = in-time x k a i r calls g
+never-late x e i r calls g = rw (start-is x e) (in-time x (passes x e) i r calls (rw (start-is x e) at g))
 
 pub demand3b : Demand3b
-demand3b x each a k s most q =
-    forced-late x (formed (x .n) (x .c) (x .t) (x .d) (a .well-formed) .ordered) (suc k) most (s .place) (s .inside) (q (s .place) (s .inside))
-    (omega (arith, a .largest (s .place) (s .inside), s .there))
+demand3b x e most q =
+    let p = passes x e in
+    let s = k-met x p in
+    forced-late x (taken-well x (verdict-form x p)) (suc (testOf x .k)) most (s .0) (s .1) (q (s .0) (s .1))
+    (omega (arith, each-is x p (s .0) (s .1), s .2))
 
 untouched : (s : State) (x : Call) → step s x ≡ s → said s x ≡ [] → Untouched s x
 unfolding runOf history
@@ -88,9 +105,9 @@ no-eleven s l = (
     nine false false e = omega arith
 
 pub never-eleven : NeverEleven
-never-eleven x k a calls =
-    let s : State = runOf (begin x k) calls in
-    let y = no-eleven s (run-legal (begin x k) (begin-legal x k a) calls) in (
-      λ lost e. y .0 lost (sym (slot-number s lost (slotRefusal s lost) refl) ∙ e),
-      λ name size e. y .1 name size (sym (request-number s name size (requestRefusal s name size) refl) ∙ e),
+never-eleven x e calls =
+    let s : State = runOf (startOf x .state) calls in
+    let y = no-eleven s (run-legal (startOf x .state) (rw (start-is x e) (start-legal x (passes x e))) calls) in (
+      λ lost f. y .0 lost (sym (slot-number s lost (slotRefusal s lost) refl) ∙ f),
+      λ name size f. y .1 name size (sym (request-number s name size (requestRefusal s name size) refl) ∙ f),
     )

@@ -6,7 +6,7 @@ use Prim.Native.Nat.{ℕ, zero, suc, _+_, _-_, _≤_, _<_}
 use native.Mathlib.Omega.{arith}
 use lib.ListN.{length}
 use Rattle.seq.specs.Places.{flag, at}
-use Rattle.seq.proofs.Places.{over-length}
+use Rattle.seq.proofs.Places.{at-zeros, over-length}
 use Rattle.law.specs.Sums.{sum}
 use Rattle.rows.specs.Rows.{reloaded, charged, counted}
 use Rattle.table.specs.declared.Table.{Table}
@@ -14,15 +14,14 @@ use Rattle.engine.specs.declared.State.{State}
 use Rattle.engine.specs.declared.Answer.{Answer}
 use Rattle.engine.specs.declared.Use.{Use}
 use Rattle.engine.specs.States.{with-figures}
+use Rattle.engine.specs.Start.{blank, begun}
 use Rattle.engine.specs.Legal.{ran}
 use Rattle.engine.specs.Slot.{isGive, rowServed, leftReleased, lates, leftJudged, counter₁, left₁, choiceOf, useOf, lateOf, settled, answered}
 use Rattle.promise.specs.Runs.{Call, runOf, history, moment}
 use Rattle.promise.specs.History.{answerAt, count}
-use Rattle.promise.specs.Starts.{begin}
 use Rattle.promise.proofs.Trail.{bare, first-moment, last-moment, trail}
 use Rattle.promise.proofs.Choice.{View, view, fits, places}
 use Rattle.promise.proofs.Lane.{judged-long, Lane}
-use Rattle.promise.proofs.Starts.{at-zeros}
 
 -- a state of a run of table x with allowances k, before slot y
 pub record Tame (x : Table) (k : List ℕ) (y : ℕ) (z : State) : Type 0 where
@@ -106,56 +105,58 @@ sum-count kind (a ∷ l) = sum-head (λ y. flag (kind (answerAt (a ∷ l) y .use
 -- a run from the start
 module _ (x : Table) (k : List ℕ) (calls : List Call) where
   abbrev h : List Answer
-  h = history (begin x k) calls
+  h = history (begun x k) calls
 
   abbrev before : ℕ → State
-  before y = moment (begin x k) calls y .state
+  before y = moment (begun x k) calls y .state
 
   abbrev out : ℕ → Bool
-  out y = moment (begin x k) calls y .lost
+  out y = moment (begun x k) calls y .lost
 
   pub tame : (y : ℕ) → y ≤ length h → Tame x k y (before y)
+  unfolding blank
   tame zero p =
-      tame-bare (before 0) (begin x k) (first-moment calls (begin x k))
+      tame-bare (before 0) (begun x k) (first-moment calls (begun x k))
       (record { n-same = refl; c-same = refl; t-same = refl; d-same = refl; k-same = refl; clock = refl; left-long = refl; counter-long = refl; late-long = refl })
-  tame (suc y) p = tame-bare (before (suc y)) (settled (before y) (out y)) (trail calls (begin x k) y p .next) (tame-slot (tame y (omega arith)) (out y))
+  tame (suc y) p = tame-bare (before (suc y)) (settled (before y) (out y)) (trail calls (begun x k) y p .next) (tame-slot (tame y (omega arith)) (out y))
 
   module _ (y : ℕ) (p : y < length h) where
     pub used-is : answerAt h y .used ≡ useOf (before y) (out y)
     unfolding answered
-    used-is = ap (λ (a : Answer). a .used) (trail calls (begin x k) y p .answer)
+    used-is = ap (λ (a : Answer). a .used) (trail calls (begun x k) y p .answer)
 
     pub word-is : answerAt h y .word ≡ lateOf (before y) (out y)
     unfolding answered
-    word-is = ap (λ (a : Answer). a .word) (trail calls (begin x k) y p .answer)
+    word-is = ap (λ (a : Answer). a .word) (trail calls (begun x k) y p .answer)
 
     late-is : before (suc y) .late ≡ counted (answerAt h y .word) (before y .late)
     unfolding settled with-figures
-    late-is = ap (λ (s : State). s .late) (trail calls (begin x k) y p .next) ∙ rw word-is
+    late-is = ap (λ (s : State). s .late) (trail calls (begun x k) y p .next) ∙ rw word-is
 
   pub lane : Lane (x .n) (x .c) (x .t) (x .d) h (λ y. before y .left) (λ y. before y .late)
+  unfolding blank
   lane =
       record {
-        nothing = λ i r. ap (λ (s : State). at (s .left) i) (first-moment calls (begin x k)) ∙ at-zeros 16 i;
-        none-late = λ i r. ap (λ (s : State). at (s .late) i) (first-moment calls (begin x k)) ∙ at-zeros 16 i;
+        nothing = λ i r. ap (λ (s : State). at (s .left) i) (first-moment calls (begun x k)) ∙ at-zeros 16 i;
+        none-late = λ i r. ap (λ (s : State). at (s .late) i) (first-moment calls (begun x k)) ∙ at-zeros 16 i;
         left-long = λ y p. tame y p .left-long;
         late-long = λ y p. tame y p .late-long;
         places = λ y p i r. rw (used-is y p) (places (viewed (before y) (out y)) i r);
         fits = λ y p i. rw (used-is y p) (rw (mid-same (tame y (omega arith))) at (fits (viewed (before y) (out y)) i));
-        left-next = λ y p. rw (used-is y p) (ap (λ (s : State). s .left) (trail calls (begin x k) y p .next) ∙ left-same (tame y (omega arith)) (out y));
+        left-next = λ y p. rw (used-is y p) (ap (λ (s : State). s .left) (trail calls (begun x k) y p .next) ∙ left-same (tame y (omega arith)) (out y));
         word-is = λ y p. rw (used-is y p) (word-is y p ∙ word-same (tame y (omega arith)) (out y));
         late-next = λ y p. late-is y p;
       }
 
   -- a figure that rises by one in each slot of a kind counts the slots of that kind
-  module _ (f : State → ℕ) (kind : Use → Bool) (none : f (begin x k) ≡ 0) (alike : (a b : State) → bare a ≡ bare b → f a ≡ f b)
+  module _ (f : State → ℕ) (kind : Use → Bool) (none : f (begun x k) ≡ 0) (alike : (a b : State) → bare a ≡ bare b → f a ≡ f b)
       (rises : (z : State) (lost : Bool) → f (settled z lost) ≡ f z + flag (kind (useOf z lost))) where
     figure : (y : ℕ) → y ≤ length h → f (before y) ≡ sum (λ y. flag (kind (answerAt h y .used))) y
     unfolding sum
-    figure zero p = alike (before 0) (begin x k) (first-moment calls (begin x k)) ∙ none
+    figure zero p = alike (before 0) (begun x k) (first-moment calls (begun x k)) ∙ none
     figure (suc y) p =
-        alike (before (suc y)) (settled (before y) (out y)) (trail calls (begin x k) y p .next) ∙ rises (before y) (out y)
+        alike (before (suc y)) (settled (before y) (out y)) (trail calls (begun x k) y p .next) ∙ rises (before y) (out y)
         ∙ rw (used-is y p) (omega (arith, figure y (omega arith)))
 
-    pub figure-run : f (runOf (begin x k) calls) ≡ count kind h
-    figure-run = ap f (sym (last-moment calls (begin x k))) ∙ figure (length h) (omega arith) ∙ sum-count kind h
+    pub figure-run : f (runOf (begun x k) calls) ≡ count kind h
+    figure-run = ap f (sym (last-moment calls (begun x k))) ∙ figure (length h) (omega arith) ∙ sum-count kind h

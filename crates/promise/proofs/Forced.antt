@@ -10,7 +10,7 @@ use lib.ListN.{length, replicate}
 use borrow.Author.Tests.{eq-eqb, ne-eqb, lt-ltb, le-ltb, eqb-true, ltb-true}
 use Rattle.seq.specs.Places.{flag, at}
 use Rattle.seq.specs.Words.{bit}
-use Rattle.seq.proofs.Places.{every-true, over-length, tab-length, tab-at}
+use Rattle.seq.proofs.Places.{at-zeros, every-true, over-length, tab-length, tab-at}
 use Rattle.seq.proofs.Tests.{both-true}
 use Rattle.law.specs.Sums.{sum}
 use Rattle.law.specs.Work.{allowance}
@@ -21,15 +21,15 @@ use Rattle.law.proofs.Laws.{tight}
 use Rattle.rows.specs.Rows.{rowsOf, noneZero, ends, counted}
 use Rattle.rows.proofs.Idle.{idle-before}
 use Rattle.table.specs.declared.Table.{Table}
+use Rattle.table.specs.WellFormed.{WellFormed}
 use Rattle.engine.specs.declared.Answer.{Answer}
 use Rattle.engine.specs.declared.Use.{Use}
 use Rattle.engine.specs.Slot.{chosen, isGive, rowServed, leftReleased}
 use Rattle.promise.specs.History.{answerAt, isRow, noAnswer}
 use Rattle.promise.specs.Forced.{forcedUse, forcedLeft, forcedWord, forcedAnswer, forcedHistory}
 use Rattle.promise.specs.Demands.{rowEndsLate}
-use Rattle.promise.proofs.Starts.{at-zeros}
 use Rattle.promise.proofs.Choice.{View, is-lost, is-given, is-hard, is-back, is-empty, view, fits, places, used-sum}
-use Rattle.promise.proofs.Lane.{Ordered, Lane, judged-long, mids, uses, lane-mid, lane-used, lane-bit, lane-left, lane-flag}
+use Rattle.promise.proofs.Lane.{Lane, judged-long, mids, uses, lane-mid, lane-used, lane-bit, lane-left, lane-flag}
 
 -- a point's sum
 sum-point : (f n : ℕ) → f < n → sum (λ h. flag (eqb (suc f) (suc h))) n ≡ 1
@@ -82,7 +82,7 @@ none-zero-ones n = every-true (rowsOf n) _ (λ i h. lt-ltb 0 _ (ones 16 i (omega
     ones (suc m) (suc i) h = ones m i (omega arith)
 
 -- the run of m slots of which the first g are given away
-module _ (x : Table) (o : Ordered (x .n) (x .c) (x .t) (x .d)) (g m : ℕ) where
+module _ (x : Table) (o : WellFormed (x .n) (x .c) (x .t) (x .d)) (g m : ℕ) where
   abbrev hist : List Answer
   hist = forcedHistory x g m
 
@@ -143,7 +143,7 @@ module _ (x : Table) (o : Ordered (x .n) (x .c) (x .t) (x .d)) (g m : ℕ) where
       served : g ≤ y → 1 ≤ mid y i → (suc (backlog (used y) i) ≡ backlog (mid y) i) × (used y i ≡ 0 → backlog (used y) i ≡ 0)
       served q b =
           let e : forcedUse x g y (forcedLeft x g y) ≡ answerAt hist y .used = ap (λ (a : Answer). a .used) (sym (answer-is y p)) in
-          serves (x .n) (mid₁ y) i (omega (arith, o .few)) (used y) b (rw (le-ltb y g q, e) at (viewed y))
+          serves (x .n) (mid₁ y) i (omega (arith, o .counted .1)) (used y) b (rw (le-ltb y g q, e) at (viewed y))
           (λ h v. lane-used o lane h (omega arith) y p)
 
       slot-forced : Forced (at (x .c)) (at (x .t)) i g y (at (forcedLeft x g y)) (used y)
@@ -165,7 +165,7 @@ module _ (x : Table) (o : Ordered (x .n) (x .c) (x .t) (x .d)) (g m : ℕ) where
     bit-late y h p v e =
         let w : h < x .n = omega arith in
         let z = both-true (ends y (at (x .t) h) (at (x .d) h)) _ (sym (lane-bit o lane h w y p) ∙ e) in
-        (omega (arith, eqb-true (y % at (x .t) h) (at (x .d) h - 1) (z .0), o .cost h w, o .within h w), ltb-true _ _ (z .1))
+        (omega (arith, eqb-true (y % at (x .t) h) (at (x .d) h - 1) (z .0), o .ordered h w .some, o .ordered h w .due), ltb-true _ _ (z .1))
 
     run : at (x .d) i ≤ m → ForcedRun (at (x .c)) (at (x .t)) (at (x .d)) i g (at (x .d) i) (λ y. at (forcedLeft x g y)) used
     unfolding forcedLeft
@@ -187,8 +187,8 @@ module _ (x : Table) (o : Ordered (x .n) (x .c) (x .t) (x .d)) (g m : ℕ) where
     forced-late q e =
         let n = tab-length m (forcedAnswer x g) in
         let z =
-        tight (at (x .c)) (at (x .t)) (at (x .d)) i g (o .cost i r)
-        (λ h v. let w : h < x .n = omega arith in omega (arith, o .cost h w, o .within h w)) (λ h v. o .short h (omega arith)) e _ _ (run q) in
+        tight (at (x .c)) (at (x .t)) (at (x .d)) i g (o .ordered i r .some)
+        (λ h v. let w : h < x .n = omega arith in omega (arith, o .ordered h w .some, o .ordered h w .due)) (λ h v. o .ordered h (omega arith) .within) e _ _ (run q) in
         let p : z .0 < length hist = omega (arith, z .2) in
         let w : z .1 < x .n = omega (arith, z .3) in
         (z .1, z .0, w, omega (arith, z .2), sym (lane-flag o lane (z .1) w (z .0) p) ∙ late-bit (z .0) (z .1) p (z .3) (z .4))

@@ -18,6 +18,7 @@ use Rattle.law.proofs.Laws.{late-counts}
 use Rattle.rows.specs.Rows.{rowsOf, ends, worked, dropped, counted}
 use Rattle.rows.specs.Rows as rows
 use Rattle.rows.proofs.Points.{released-at, worked-at, dropped-at, counted-at, late-at}
+use Rattle.table.specs.WellFormed.{WellFormed}
 use Rattle.engine.specs.declared.Answer.{Answer}
 use Rattle.engine.specs.declared.Use.{Use}
 use Rattle.engine.specs.Slot.{rowServed, leftReleased, leftUsed, lates, leftJudged}
@@ -59,13 +60,6 @@ module _ (m n : ℕ) (c t d left : List ℕ) (long : length left ≡ 16) where
       unfolding leftJudged
       judged-at = dropped-at i (omega arith) (lates m n c t d row left) (leftUsed m n c t d row left) (omega (arith, used-long row))
 
--- a table's rows are in order
-pub record Ordered (n : ℕ) (c t d : List ℕ) : Type 0 where
-  pub few : n ≤ 16
-  pub cost : (i : ℕ) → i < n → 1 ≤ at c i
-  pub within : (i : ℕ) → i < n → at c i ≤ at d i
-  pub short : (i : ℕ) → i < n → at d i ≤ at t i
-
 -- the work left and the late counts before each of the slots of a history
 pub record Lane (n : ℕ) (c t d : List ℕ) (h : List Answer) (left late : ℕ → List ℕ) : Type 0 where
   pub nothing : (i : ℕ) → i < n → at (left 0) i ≡ 0
@@ -78,7 +72,7 @@ pub record Lane (n : ℕ) (c t d : List ℕ) (h : List Answer) (left late : ℕ 
   pub word-is : (x : ℕ) → x < length h → answerAt h x .word ≡ lates x n c t d (rowServed (answerAt h x .used)) (left x)
   pub late-next : (x : ℕ) → x < length h → late (suc x) ≡ counted (answerAt h x .word) (late x)
 
-module _ {n : ℕ} {c t d : List ℕ} {h : List Answer} {left late : ℕ → List ℕ} (o : Ordered n c t d) (z : Lane n c t d h left late) where
+module _ {n : ℕ} {c t d : List ℕ} {h : List Answer} {left late : ℕ → List ℕ} (o : WellFormed n c t d) (z : Lane n c t d h left late) where
   -- after the release, and after the use
   abbrev pub mids : ℕ → List ℕ
   mids x = leftReleased x n c t d (left x)
@@ -88,17 +82,17 @@ module _ {n : ℕ} {c t d : List ℕ} {h : List Answer} {left late : ℕ → Lis
 
   module _ (i : ℕ) (r : i < n) where
     in-rows : i < rowsOf n
-    in-rows = omega (arith, o .few)
+    in-rows = omega (arith, o .counted .1)
 
     one : 1 ≤ at d i
-    one = omega (arith, o .cost i r, o .within i r)
+    one = omega (arith, o .ordered i r .some, o .ordered i r .due)
 
     module _ (x : ℕ) (p : x < length h) where
       pub lane-mid : at (mids x) i ≡ cond (released (at t i) x) (at c i) (at (left x) i)
       lane-mid = mid-at x n c t d (left x) (z .left-long x (omega arith)) i in-rows
 
       pub lane-used : at (uses x) i + flag (isRow i (answerAt h x .used)) ≡ at (mids x) i
-      lane-used = used-at x n c t d (left x) (z .left-long x (omega arith)) i in-rows (answerAt h x .used) (z .places x p i (omega (arith, o .few))) (z .fits x p i)
+      lane-used = used-at x n c t d (left x) (z .left-long x (omega arith)) i in-rows (answerAt h x .used) (z .places x p i (omega (arith, o .counted .1))) (z .fits x p i)
 
       pub lane-bit : bit (answerAt h x .word) i ≡ ends x (at t i) (at d i) && ltb 0 (at (uses x) i)
       lane-bit = rw (z .word-is x p) (bit-at x n c t d (left x) (z .left-long x (omega arith)) i in-rows (rowServed (answerAt h x .used)))
@@ -107,7 +101,7 @@ module _ {n : ℕ} {c t d : List ℕ} {h : List Answer} {left late : ℕ → Lis
       lane-left = rw (z .left-next x p, z .word-is x p) (judged-at x n c t d (left x) (z .left-long x (omega arith)) i in-rows (rowServed (answerAt h x .used)))
 
       pub lane-late : at (late (suc x)) i ≡ at (late x) i + flag (bit (answerAt h x .word) i)
-      lane-late = rw (z .late-next x p) (counted-at i (omega (arith, o .few)) (answerAt h x .word) (late x) (omega (arith, z .late-long x (omega arith))))
+      lane-late = rw (z .late-next x p) (counted-at i (omega (arith, o .counted .1)) (answerAt h x .word) (late x) (omega (arith, z .late-long x (omega arith))))
 
     pub row-run : RowRun (at c i) (at d i) (released (at t i)) (hit h i) (length h) (λ x. at (left x) i) (λ x. at (uses x) i) (λ x. at (late x) i)
     row-run =
@@ -115,21 +109,21 @@ module _ {n : ℕ} {c t d : List ℕ} {h : List Answer} {left late : ℕ → Lis
           nothing = z .nothing i r;
           none-late = z .none-late i r;
           uses = λ x p. lane-used x p ∙ lane-mid x p;
-          judges = λ x p. rw (lane-left x p, lane-late x p, lane-bit x p) (judged-periodic (at t i) (at d i) x (at (uses x) i) (at (late x) i) one (o .short i r));
+          judges = λ x p. rw (lane-left x p, lane-late x p, lane-bit x p) (judged-periodic (at t i) (at d i) x (at (uses x) i) (at (late x) i) one (o .ordered i r .within));
         }
 
     -- the late count is the number of the late instances
     pub lane-count : at (late (length h)) i ≡ lateCount h i (at c i) (at t i) (at d i)
-    lane-count = late-counts (at c i) (at d i) (released (at t i)) (hit h i) one (released-apart (at t i) (at d i) (o .short i r)) (length h) _ _ _ row-run
+    lane-count = late-counts (at c i) (at d i) (released (at t i)) (hit h i) one (released-apart (at t i) (at d i) (o .ordered i r .within)) (length h) _ _ _ row-run
 
     link : (x : ℕ) → x ≤ length h → Link (at c i) (at d i) (released (at t i)) (hit h i) x (at (left x) i) (at (late x) i)
-    link = link-run (at c i) (at d i) (released (at t i)) (hit h i) one (released-apart (at t i) (at d i) (o .short i r)) (length h) _ _ _ row-run
+    link = link-run (at c i) (at d i) (released (at t i)) (hit h i) one (released-apart (at t i) (at d i) (o .ordered i r .within)) (length h) _ _ _ row-run
 
     -- a bit of a late word says that the instance whose last slot it is got too few
     pub lane-flag : (x : ℕ) → x < length h → bit (answerAt h x .word) i ≡ endsLate h i (at c i) (at t i) (at d i) x
     lane-flag x p =
         same _ _
-        (link-flag (at c i) (at d i) (released (at t i)) (hit h i) one (released-apart (at t i) (at d i) (o .short i r)) x _ _ _ _ _
+        (link-flag (at c i) (at d i) (released (at t i)) (hit h i) one (released-apart (at t i) (at d i) (o .ordered i r .within)) x _ _ _ _ _
         (link x (omega arith)) (link (suc x) p) (lane-late x p))
       where
         same : (a b : Bool) → flag a ≡ flag b → a ≡ b

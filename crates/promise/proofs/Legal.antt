@@ -11,12 +11,14 @@ use borrow.Author.Tests.{le-leb, lt-ltb, ltb-true, le-ltb}
 use Rattle.seq.specs.Places.{flag, at}
 use Rattle.seq.specs.Words.{bit}
 use Rattle.seq.proofs.Tests.{both-true}
-use Rattle.seq.proofs.Places.{every-at, every-true, tab-length, tab-at}
-use Rattle.law.proofs.Work.{allowance-small}
+use Rattle.seq.proofs.Places.{at-zeros, every-at, every-true, tab-length, tab-at}
 use Rattle.table.specs.declared.Table.{Table}
 use Rattle.table.specs.declared.Verdict.{Verdict}
 use Rattle.table.specs.declared.Verdict.the-variants.{Taken, Refused}
 use Rattle.table.specs.Verdicts.{taken}
+use Rattle.table.proofs.WellFormed.{taken-iff}
+use Rattle.allowance.specs.Test.{testOf}
+use Rattle.allowance.proofs.Tests.{taken-well, verdict-form, each-small, each-past}
 use Rattle.rows.specs.Rows.{dueWord, charged, rowsKept, latesKept}
 use Rattle.rows.proofs.Points.{late-past}
 use Rattle.rows.proofs.Kept.{kept-bounds, bounds-kept, reloaded-kept, charged-kept, released-kept, worked-kept, dropped-kept, lates-say, lates-kept}
@@ -26,14 +28,13 @@ use Rattle.engine.specs.declared.State.{State}
 use Rattle.engine.specs.declared.Use.{Use}
 use Rattle.engine.specs.declared.Use.the-variants.{Hard, Given, Empty, Lost}
 use Rattle.engine.specs.States.{lastSlot, queue, with-figures}
+use Rattle.engine.specs.Start.{blank, begun}
 use Rattle.engine.specs.Legal.{ran, legal}
 use Rattle.engine.specs.Slot.{isGive, rowServed, isHard, isGiven, isEmpty, isLost, leftReleased, leftUsed, lates, leftJudged, counter₁, choiceOf, useOf, lateOf, settled, slotRefusal, slotOf}
 use Rattle.engine.specs.Calls.{requestRefusal, joined, requestOf}
 use Rattle.engine.proofs.Legality.{Legal, legal-says, legal-is, slot-legal, request-legal}
 use Rattle.promise.specs.Runs.{Call, slot, request, step, runOf}
-use Rattle.promise.specs.Starts.{Accepted, begin}
 use Rattle.promise.proofs.Trail.{slot-run, slot-refused, request-run, request-refused}
-use Rattle.promise.proofs.Starts.{at-zeros, formed}
 
 taken-is : (v : Verdict) → taken v true false ≡ true → v ≡ Taken
 taken-is Taken e = refl
@@ -99,7 +100,7 @@ module _ (s : State) (lost : Bool) (p : Legal s) where
       let e = charged-kept (s .c) (s .d) (s .k) (s .left) l b on in
       let f = released-kept (s .c) (s .d) (s .k) (s .left) (charged on l) e (dueWord m (s .n) (s .t)) in
       let g = worked-kept (s .c) (s .d) (s .k) (leftReleased m (s .n) (s .c) (s .t) (s .d) (s .left)) (charged on l) f row in
-      bounds-kept (s .c) (s .d) (s .k) (s .n) _ _ (formed (s .n) (s .c) (s .t) (s .d) (taken-is _ (p .table)) .past)
+      bounds-kept (s .c) (s .d) (s .k) (s .n) _ _ (λ i g h. let z = taken-iff (s .n) (s .c) (s .t) (s .d) .0 (taken-is _ (p .table)) .past i g h in (z .0, z .2))
       (dropped-kept (s .c) (s .d) (s .k) (leftUsed m (s .n) (s .c) (s .t) (s .d) row (s .left)) (charged on l) g (lates m (s .n) (s .c) (s .t) (s .d) row (s .left)))
 
   none-past : (i : ℕ) → s .n ≤ i → i < 16 → bit (lateOf s lost) i ≡ false
@@ -158,34 +159,26 @@ run-legal s l [] = l
 run-legal s l (x ∷ calls) = run-legal (step s x) (step-legal s x l) calls
 
 -- the start
-pub begin-legal : (x : Table) (k : List ℕ) → Accepted x k → legal (begin x k) ≡ true
-unfolding latesKept
-begin-legal x k a =
-    let f = formed (x .n) (x .c) (x .t) (x .d) (a .well-formed) in
-    legal-is (begin x k)
+pub start-legal : (x : Table) → testOf x .verdict ≡ Taken → legal (begun x (testOf x .each)) ≡ true
+unfolding blank latesKept
+start-legal x e =
+    legal-is (begun x (testOf x .each))
     (record {
-      table = rw (a .well-formed);
+      table = rw (verdict-form x e);
       rows =
-          bounds-kept (x .c) (x .d) k (x .n) (replicate 16 0) (replicate 16 0) (f .past)
-          (λ i h. record { slack = small i h; charge = omega (arith, at-zeros 16 i); work = omega (arith, at-zeros 16 i) });
-      lates = lates-zero;
+          bounds-kept (x .c) (x .d) (testOf x .each) (x .n) (replicate 16 0) (replicate 16 0)
+          (λ i g h. let z = taken-well x (verdict-form x e) .past i g h in (z .0, z .2))
+          (λ i h. record { slack = small i; charge = omega (arith, at-zeros 16 i); work = omega (arith, at-zeros 16 i) });
+      lates = every-true 16 _ (λ i h. le-leb (at (replicate 16 0) i) (cond (ltb i (x .n)) 0 0) (omega (arith, at-zeros 16 i)));
       tallies = refl;
       began = omega arith;
       clock = omega arith;
       queue = laid-proper laid-none;
     })
   where
-    small : (i : ℕ) → i < 16 → at k i ≤ at (x .d) i - at (x .c) i
-    small i h =
+    small : (i : ℕ) → at (testOf x .each) i ≤ at (x .d) i - at (x .c) i
+    small i =
         elim (decLt i (x .n)) [
-          | yes r ↦
-              omega (
-                arith,
-                allowance-small (at (x .c)) (at (x .t)) i (at (x .d) i) (formed (x .n) (x .c) (x .t) (x .d) (a .well-formed) .ordered .within i r),
-                a .largest i r,
-              )
-          | no r ↦ omega (arith, a .zeros i (omega arith) h)
+          | yes r ↦ omega (arith, each-small x e i r)
+          | no r ↦ omega (arith, each-past x e i (omega arith))
         ]
-
-    lates-zero : latesKept (x .n) 0 (replicate 16 0) ≡ true
-    lates-zero = every-true 16 _ (λ i h. le-leb (at (replicate 16 0) i) (cond (ltb i (x .n)) 0 0) (omega (arith, at-zeros 16 i)))

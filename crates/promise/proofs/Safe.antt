@@ -22,6 +22,11 @@ use Rattle.law.proofs.Laws.{row-promise}
 use Rattle.rows.specs.Rows.{rowsOf, idle, reloaded}
 use Rattle.rows.proofs.Points.{reloaded-at, charged-at}
 use Rattle.table.specs.declared.Table.{Table}
+use Rattle.table.specs.declared.Verdict.the-variants.{Taken}
+use Rattle.table.specs.WellFormed.{WellFormed}
+use Rattle.allowance.specs.Test.{testOf}
+use Rattle.allowance.proofs.Tests.{taken-well, verdict-form, verdict-rows, each-is, each-holds}
+use Rattle.engine.specs.Start.{blank, begun}
 use Rattle.engine.specs.declared.State.{State}
 use Rattle.engine.specs.declared.Answer.{Answer}
 use Rattle.engine.specs.declared.Use.{Use}
@@ -29,13 +34,11 @@ use Rattle.engine.specs.States.{with-figures}
 use Rattle.engine.specs.Slot.{isGive, isLost, counter₁, left₁, choiceOf, useOf, settled}
 use Rattle.promise.specs.Runs.{Call, history, moment}
 use Rattle.promise.specs.History.{answerAt, hit, got, count, NoneLost}
-use Rattle.promise.specs.Starts.{Accepted, begin}
 use Rattle.promise.specs.Demands.{lateOfRow, rowEndsLate, InTime, Spared}
 use Rattle.promise.proofs.Trail.{trail}
 use Rattle.promise.proofs.Choice.{low, high, took}
-use Rattle.promise.proofs.Lane.{Ordered, mids, uses, lane-mid, lane-used, lane-left, lane-count, row-run}
+use Rattle.promise.proofs.Lane.{mids, uses, lane-mid, lane-used, lane-left, lane-count, row-run}
 use Rattle.promise.proofs.Engine.{Tame, counter₁-long, mid-same, viewed, tame, used-is, lane}
-use Rattle.promise.proofs.Starts.{formed}
 use Rattle.promise.proofs.Counts.{flagged-run, word-none}
 
 -- reload, by the work left up to row i
@@ -62,21 +65,24 @@ kept-most : (b : Bool) (u : ℕ) → cond b 0 u ≤ u
 kept-most true u = omega arith
 kept-most false u = omega arith
 
-module _ (x : Table) (k : List ℕ) (a : Accepted x k) (i : ℕ) (r : i < x .n) (calls : List Call) (spared : Spared (begin x k) calls i) where
+module _ (x : Table) (a : testOf x .verdict ≡ Taken) (i : ℕ) (r : i < x .n) (calls : List Call) (spared : Spared (begun x (testOf x .each)) calls i) where
+  abbrev k : List ℕ
+  k = testOf x .each
+
   abbrev h : List Answer
-  h = history (begin x k) calls
+  h = history (begun x k) calls
 
   abbrev before : ℕ → State
-  before y = moment (begin x k) calls y .state
+  before y = moment (begun x k) calls y .state
 
   abbrev out : ℕ → Bool
-  out y = moment (begin x k) calls y .lost
+  out y = moment (begun x k) calls y .lost
 
   abbrev left : ℕ → List ℕ
   left y = before y .left
 
-  ordered : Ordered (x .n) (x .c) (x .t) (x .d)
-  ordered = formed (x .n) (x .c) (x .t) (x .d) (a .well-formed) .ordered
+  ordered : WellFormed (x .n) (x .c) (x .t) (x .d)
+  ordered = taken-well x (verdict-form x a)
 
   abbrev late : ℕ → List ℕ
   late y = before y .late
@@ -93,13 +99,13 @@ module _ (x : Table) (k : List ℕ) (a : Accepted x k) (i : ℕ) (r : i < x .n) 
     q = tame x k calls y (omega arith)
 
     rows : i < rowsOf (before y .n)
-    rows = omega (arith, q .n-same, ordered .few)
+    rows = omega (arith, q .n-same, ordered .counted .1)
 
     counter-next : at (before (suc y) .counter) i ≡ at (counter₁ (before y)) i - flag (isGive (choiceOf (before y)) && not (out y))
     unfolding settled with-figures
     counter-next =
-        ap (λ (s : State). at (s .counter) i) (trail calls (begin x k) y p .next)
-        ∙ charged-at i (omega (arith, ordered .few)) (isGive (choiceOf (before y)) && not (out y)) (counter₁ (before y)) (omega (arith, counter₁-long q, ordered .few))
+        ap (λ (s : State). at (s .counter) i) (trail calls (begun x k) y p .next)
+        ∙ charged-at i (omega (arith, ordered .counted .1)) (isGive (choiceOf (before y)) && not (out y)) (counter₁ (before y)) (omega (arith, counter₁-long q, ordered .counted .1))
 
     slot-took : 1 ≤ backlog (used y) i → suc (backlog (used y) i + at (before (suc y) .counter) i) ≤ backlog (mid y) i + at (counter₁ (before y)) i
     slot-took b =
@@ -122,22 +128,21 @@ module _ (x : Table) (k : List ℕ) (a : Accepted x k) (i : ℕ) (r : i < x .n) 
             λ y p e.
             omega (
               arith,
-              reload-anew (before y .n) (before y .left) (before y .k) (before y .counter) i (rows y p) (omega (arith, q y p .counter-long, ordered .few)) e,
+              reload-anew (before y .n) (before y .left) (before y .k) (before y .counter) i (rows y p) (omega (arith, q y p .counter-long, ordered .counted .1)) e,
               ap (λ (l : List ℕ). at l i) (q y p .k-same),
             );
-        goes-on = λ y p e. reload-on (before y .n) (before y .left) (before y .k) (before y .counter) i (rows y p) (omega (arith, q y p .counter-long, ordered .few)) e;
+        goes-on = λ y p e. reload-on (before y .n) (before y .left) (before y .k) (before y .counter) i (rows y p) (omega (arith, q y p .counter-long, ordered .counted .1)) e;
         took = λ y p b. slot-took y p b;
       }
 
   -- none is late, and each got exactly what it needs
   pub in-time : InTime x h i
   in-time =
-      let e = a .largest i r in
       let y =
       row-promise (at (x .c)) (at (x .t)) i (at (x .d) i) (at k i)
-      (λ g v. let w : g < x .n = omega arith in omega (arith, ordered .cost g w, ordered .within g w, ordered .short g w))
-      (ordered .short i r)
-      (rw e (allowance-holds (at (x .c)) (at (x .t)) i (at (x .d) i) (a .held i r))) (length h) (λ g. released (at (x .t) g)) (λ z. at (left z)) mid used
+      (λ g v. let w : g < x .n = omega arith in omega (arith, ordered .ordered g w .some, ordered .ordered g w .due, ordered .ordered g w .within))
+      (ordered .ordered i r .within)
+      (each-holds x a i r) (length h) (λ g. released (at (x .t) g)) (λ z. at (left z)) mid used
       (λ z. at (before z .counter) i) (λ z. at (counter₁ (before z)) i) run (hit h i) (λ z. at (late z) i) (row-run ordered (lane x k calls) i r) in
       record {
         exact = λ j q. y .1 (j * at (x .t) i) (eq-eqb _ 0 (mul-mod-left j (at (x .t) i))) q;
@@ -156,13 +161,13 @@ count-none kind (a ∷ l) e zero p = unset (kind (a .used)) (omega (arith, e))
 count-none kind (a ∷ l) e (suc y) p = count-none kind l (omega (arith, e)) y (omega arith)
 
 -- so where no slot is lost every row is spared
-pub spared-all : (x : Table) (k : List ℕ) (calls : List Call) → NoneLost (history (begin x k) calls) → (i : ℕ) → Spared (begin x k) calls i
+pub spared-all : (x : Table) (k : List ℕ) (calls : List Call) → NoneLost (history (begun x k) calls) → (i : ℕ) → Spared (begun x k) calls i
 unfolding useOf
 spared-all x k calls g i y p e =
     absurd
     (true≢false
-    (sym (ap isLost (used-is x k calls y p ∙ ap (λ (b : Bool). useOf (moment (begin x k) calls y .state) b) e))
-    ∙ count-none isLost (history (begin x k) calls) g y p))
+    (sym (ap isLost (used-is x k calls y p ∙ ap (λ (b : Bool). useOf (moment (begun x k) calls y .state) b) e))
+    ∙ count-none isLost (history (begun x k) calls) g y p))
 
 -- a slot with which a late instance ends counts
 ends-counted : (x : Table) (h : List Answer) (i y : ℕ) → 1 ≤ at (x .d) i → y < length h → rowEndsLate x h y i ≡ true → 1 ≤ lateOfRow x h i
@@ -175,22 +180,22 @@ ends-counted x h i y one p e =
     omega (arith, term-le f (length h) z (omega arith))
 
 -- so no late word but 0
-pub words-zero : (x : Table) (k : List ℕ) → Accepted x k → (calls : List Call) → NoneLost (history (begin x k) calls)
-    → (y : ℕ) → y < length (history (begin x k) calls) → answerAt (history (begin x k) calls) y .word ≡ 0
-words-zero x k a calls g y p = flagged-run x k a calls y p .bits ∙ word-none (rowEndsLate x h y) (x .n) (λ i r. fine i r (rowEndsLate x h y i) refl)
+pub words-zero : (x : Table) → testOf x .verdict ≡ Taken → (calls : List Call) → NoneLost (history (begun x (testOf x .each)) calls)
+    → (y : ℕ) → y < length (history (begun x (testOf x .each)) calls) → answerAt (history (begun x (testOf x .each)) calls) y .word ≡ 0
+words-zero x a calls g y p = flagged-run x a calls y p .bits ∙ word-none (rowEndsLate x h y) (x .n) (λ i r. fine i r (rowEndsLate x h y i) refl)
   where
     h : List Answer
-    h = history (begin x k) calls
+    h = history (begun x (testOf x .each)) calls
 
-    o : Ordered (x .n) (x .c) (x .t) (x .d)
-    o = formed (x .n) (x .c) (x .t) (x .d) (a .well-formed) .ordered
+    o : WellFormed (x .n) (x .c) (x .t) (x .d)
+    o = taken-well x (verdict-form x a)
 
     fine : (i : ℕ) → i < x .n → (b : Bool) → rowEndsLate x h y i ≡ b → rowEndsLate x h y i ≡ false
     fine i r true e =
         absurd
         (omega (
           arith,
-          ends-counted x h i y (omega (arith, o .cost i r, o .within i r)) p e,
-          in-time x k a i r calls (spared-all x k calls g i) .none,
+          ends-counted x h i y (omega (arith, o .ordered i r .some, o .ordered i r .due)) p e,
+          in-time x a i r calls (spared-all x (testOf x .each) calls g i) .none,
         ))
     fine i r false e = e

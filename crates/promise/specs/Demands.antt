@@ -1,6 +1,6 @@
 -- The owner's demands on whole runs. Each statement is a type; proofs/Demands.antt gives a proof of each, under the same name in small
--- letters. A run is any list of any calls from the start of an accepted table (Runs, Starts). What a history says, History defines from
--- the answers alone. Rows and slots are counted from 0 here; row i's instance j is released in slot j * T.
+-- letters. A run is any list of any calls from the start of an accepted table. What a history says, History defines from the answers
+-- alone. Rows and slots are counted from 0 here; row i's instance j is released in slot j * T.
 use Prim.Native.Nat.{ℕ, suc, _+_, _*_, _≤_, _<_}
 use mathlib.Core.Path.{_≡_}
 use mathlib.Core.List.{List, [], _∷_}
@@ -10,16 +10,28 @@ use Rattle.seq.specs.Places.{at, tab}
 use Rattle.seq.specs.Words.{word, trues}
 use Rattle.law.specs.Sums.{sum}
 use Rattle.table.specs.declared.Table.{Table}
+use Rattle.table.specs.declared.Verdict.the-variants.{Taken}
+use Rattle.allowance.specs.Test.{testOf}
 use Rattle.engine.specs.declared.State.{State}
 use Rattle.engine.specs.declared.Answer.{Answer}
 use Rattle.engine.specs.declared.Use.the-variants.{Empty}
 use Rattle.engine.specs.Slot.{isHard, isGiven, isEmpty, isLost, left₁, answered, slotOf}
+use Rattle.engine.specs.Start.{startOf}
 use Rattle.engine.specs.Calls.{requestOf, lateTotalOf}
 use Rattle.engine.specs.Legal.{legal}
 use Rattle.promise.specs.Runs.{Call, slot, request, step, said, runOf, history, moment}
 use Rattle.promise.specs.History.{answerAt, got, lateCount, endsLate, count, NoneLost}
-use Rattle.promise.specs.Starts.{Accepted, begin}
 use Rattle.promise.specs.Forced.{forcedHistory}
+
+-- a table that is accepted, the state in which its runs start, and the history of a run
+abbrev pub Starts : Table → Type 0
+Starts x = startOf x .verdict ≡ Taken
+
+abbrev pub start : Table → State
+start x = startOf x .state
+
+abbrev pub told : Table → List Call → List Answer
+told x calls = history (start x) calls
 
 -- a row's figures
 abbrev pub lateOfRow : Table → List Answer → ℕ → ℕ
@@ -47,9 +59,8 @@ pub record Flagged (x : Table) (h : List Answer) (y : ℕ) : Type 0 where
 
 abbrev pub Demand2 : Type 0
 Demand2 =
-    (x : Table) (k : List ℕ) → Accepted x k → (calls : List Call)
-    → Counted x (runOf (begin x k) calls) (history (begin x k) calls)
-    × ((y : ℕ) → y < length (history (begin x k) calls) → Flagged x (history (begin x k) calls) y)
+    (x : Table) → Starts x → (calls : List Call)
+    → Counted x (runOf (start x) calls) (told x calls) × ((y : ℕ) → y < length (told x calls) → Flagged x (told x calls) y)
 
 -- The answer of slot y is the one that the rules give in the state in which it was called.
 abbrev pub ByTheRules : Type 0
@@ -65,9 +76,8 @@ pub record InTime (x : Table) (h : List Answer) (i : ℕ) : Type 0 where
 
 abbrev pub Demand3a : Type 0
 Demand3a =
-    (x : Table) (k : List ℕ) → Accepted x k → (calls : List Call) → NoneLost (history (begin x k) calls)
-    → ((i : ℕ) → i < x .n → InTime x (history (begin x k) calls) i)
-    × ((y : ℕ) → y < length (history (begin x k) calls) → answerAt (history (begin x k) calls) y .word ≡ 0)
+    (x : Table) → Starts x → (calls : List Call) → NoneLost (told x calls)
+    → ((i : ℕ) → i < x .n → InTime x (told x calls) i) × ((y : ℕ) → y < length (told x calls) → answerAt (told x calls) y .word ≡ 0)
 
 -- The same of row i alone, where slots are lost only while no row up to i has work left.
 abbrev pub Spared : (s : State) (calls : List Call) (i : ℕ) → Type 0
@@ -77,22 +87,14 @@ Spared s calls i =
 
 abbrev pub NeverLate : Type 0
 NeverLate =
-    (x : Table) (k : List ℕ) → Accepted x k → (i : ℕ) → i < x .n
-    → (calls : List Call) → Spared (begin x k) calls i → InTime x (history (begin x k) calls) i
+    (x : Table) → Starts x → (i : ℕ) → i < x .n → (calls : List Call) → Spared (start x) calls i → InTime x (told x calls) i
 
--- Demand 3, second half. Where one slot more than the smallest allowance is given away at the start, an instance is late within the
+-- Demand 3, second half. Where one slot more than k, the smallest allowance, is given away at the start, an instance is late within the
 -- largest deadline.
-pub record Smallest (f : ℕ → ℕ) (n k : ℕ) : Type 0 where
-  pub least : (i : ℕ) → i < n → k ≤ f i
-  pub place : ℕ
-  pub inside : place < n
-  pub there : f place ≡ k
-
 abbrev pub Demand3b : Type 0
 Demand3b =
-    (x : Table) (each : List ℕ) → Accepted x each → (k : ℕ) → Smallest (at each) (x .n) k
-    → (most : ℕ) → ((i : ℕ) → i < x .n → at (x .d) i ≤ most)
-    → (i : ℕ) × (y : ℕ) × (i < x .n) × (y < most) × (rowEndsLate x (forcedHistory x (suc k) most) y i ≡ true)
+    (x : Table) → Starts x → (most : ℕ) → ((i : ℕ) → i < x .n → at (x .d) i ≤ most)
+    → (i : ℕ) × (y : ℕ) × (i < x .n) × (y < most) × (rowEndsLate x (forcedHistory x (suc (testOf x .k)) most) y i ≡ true)
 
 -- Demand 1. A run is a function of any state and any calls. A refused call leaves no trace.
 pub record Untouched (s : State) (x : Call) : Type 0 where
@@ -114,6 +116,6 @@ LegalStays = (s : State) → legal s ≡ true → (calls : List Call) → legal 
 
 abbrev pub NeverEleven : Type 0
 NeverEleven =
-    (x : Table) (k : List ℕ) → Accepted x k → (calls : List Call)
-    → ((lost : Bool) → slotOf (runOf (begin x k) calls) lost .answer .number ≡ 11 → ⊥)
-    × ((name size : ℕ) → requestOf (runOf (begin x k) calls) name size .number ≡ 11 → ⊥)
+    (x : Table) → Starts x → (calls : List Call)
+    → ((lost : Bool) → slotOf (runOf (start x) calls) lost .answer .number ≡ 11 → ⊥)
+    × ((name size : ℕ) → requestOf (runOf (start x) calls) name size .number ≡ 11 → ⊥)
