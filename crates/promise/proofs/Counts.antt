@@ -17,7 +17,7 @@ use Rattle.table.specs.declared.Table.{Table}
 use Rattle.table.specs.declared.Verdict.the-variants.{Taken}
 use Rattle.table.specs.WellFormed.{WellFormed}
 use Rattle.allowance.specs.Test.{testOf}
-use Rattle.allowance.proofs.Tests.{taken-well, verdict-form, verdict-rows, each-is, each-holds}
+use Rattle.allowance.proofs.Tests.{taken-well, verdict-form}
 use Rattle.engine.specs.Start.{blank, begun}
 use Rattle.engine.specs.declared.State.{State}
 use Rattle.engine.specs.declared.Answer.{Answer}

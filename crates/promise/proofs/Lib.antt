@@ -7,3 +7,4 @@ pub mod Counts
 pub mod Safe
 pub mod Forced
 pub mod Demands
+pub mod Cases

@@ -16,7 +16,6 @@ use Rattle.law.specs.Age.{released}
 use Rattle.law.specs.Judge.{tooFew}
 use Rattle.law.specs.Level.{backlog, Run}
 use Rattle.law.proofs.Sums.{sum-zero, term-le}
-use Rattle.law.proofs.Work.{allowance-holds}
 use Rattle.law.proofs.Age.{released-apart}
 use Rattle.law.proofs.Laws.{row-promise}
 use Rattle.rows.specs.Rows.{rowsOf, idle, reloaded}
@@ -25,8 +24,8 @@ use Rattle.table.specs.declared.Table.{Table}
 use Rattle.table.specs.declared.Verdict.the-variants.{Taken}
 use Rattle.table.specs.WellFormed.{WellFormed}
 use Rattle.allowance.specs.Test.{testOf}
-use Rattle.allowance.proofs.Tests.{taken-well, verdict-form, verdict-rows, each-is, each-holds}
-use Rattle.engine.specs.Start.{blank, begun}
+use Rattle.allowance.proofs.Tests.{taken-well, verdict-form, each-holds}
+use Rattle.engine.specs.Start.{begun}
 use Rattle.engine.specs.declared.State.{State}
 use Rattle.engine.specs.declared.Answer.{Answer}
 use Rattle.engine.specs.declared.Use.{Use}
