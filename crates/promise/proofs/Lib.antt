@@ -1,0 +1,10 @@
+pub mod Trail
+pub mod Choice
+pub mod Lane
+pub mod Engine
+pub mod Legal
+pub mod Counts
+pub mod Safe
+pub mod Forced
+pub mod Demands
+pub mod Cases
