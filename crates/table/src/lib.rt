@@ -17,6 +17,7 @@ use seq::byte;
 use seq::either;
 
 // Rows in priority order: C slots in each period of T, by the deadline D. Those past n are zero.
+#[repr(C)]
 pub struct Table {
     pub n: usize,
     pub c: [u16; 16],
