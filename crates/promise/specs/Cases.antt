@@ -9,15 +9,17 @@ use Rattle.seq.specs.Places.{lead}
 use Rattle.table.specs.declared.Table.{Table}
 use Rattle.allowance.specs.declared.Tested.{Tested}
 use Rattle.allowance.specs.Test.{testOf}
-use Rattle.allowance.specs.Cases.{tableOf}
+use Rattle.allowance.specs.Cases.{padded, tableOf}
 use Rattle.allowance.specs.Cases as tables
+use Rattle.engine.specs.declared.Answer.{Answer}
 use Rattle.engine.specs.declared.Use.{Use}
 use Rattle.engine.specs.declared.Use.the-variants.{Hard, Given}
-use Rattle.engine.specs.Slot.{isGiven}
+use Rattle.engine.specs.Slot.{isGiven, left₁}
 use Rattle.engine.specs.Calls.{lateTotalOf}
-use Rattle.promise.specs.Runs.{Call, slot, request, runOf}
-use Rattle.promise.specs.History.{answerAt}
-use Rattle.promise.specs.Demands.{start, told}
+use Rattle.promise.specs.Runs.{Call, slot, request, runOf, moment}
+use Rattle.promise.specs.History.{answerAt, NoneLost}
+use Rattle.promise.specs.Forced.{forcedHistory}
+use Rattle.promise.specs.Demands.{Starts, start, told}
 
 -- what a case shows: a table's test; the uses of a run's slots; its first given slot; the late word of its last slot and the late total
 pub data Outcome : Type 0 where
@@ -67,3 +69,17 @@ cases = map ofTable tables.cases ++ runs
 
 abbrev pub CasesHold : Type 0
 CasesHold = map (λ x. x .gives) cases ≡ map (λ x. x .says) cases
+
+-- The demands are not empty. threeRows is accepted, with an allowance above 0. In slot 7 of its listing the request is served although
+-- rows 1 and 3 have work left. One slot more than k given away makes its second row late with slot 4; k slots make none late.
+abbrev pub words : List Answer → List ℕ
+words h = map (λ a. a .word) h
+
+pub record NotEmpty : Type 0 where
+  pub accepted : Starts threeRows
+  pub allowance : testOf threeRows .k ≡ 1
+  pub given : answerAt (told threeRows listingCalls) 6 .used ≡ Given 7
+  pub waits : left₁ (moment (start threeRows) listingCalls 6 .state) ≡ padded (1 ∷ 0 ∷ 1 ∷ [])
+  pub none-lost : NoneLost (told threeRows listingCalls)
+  pub too-many : words (forcedHistory threeRows (suc (testOf threeRows .k)) 6) ≡ 0 ∷ 0 ∷ 0 ∷ 2 ∷ 0 ∷ 0 ∷ []
+  pub enough : words (forcedHistory threeRows (testOf threeRows .k) 6) ≡ replicate 6 0
