@@ -4,17 +4,14 @@ use mathlib.Core.List.{List}
 use mathlib.Core.Bool.{Bool, true, false, cond, _&&_}
 use Prim.Native.Nat.{ℕ, suc, _+_, _-_, _≤_, _<_}
 use native.Mathlib.Omega.{arith}
-use lib.Dec.{eqb, ltb, leb}
-use borrow.Author.Tests.{ltb-false, leb-true, leb-false, eqb-true, eqb-false, le-ltb, le-leb, eq-eqb, ne-eqb}
-use Rattle.seq.specs.Places.{at}
+use lib.Dec.{eqb, leb}
+use borrow.Author.Tests.{leb-true, leb-false, eqb-true, eqb-false, le-leb, eq-eqb, ne-eqb}
 use Rattle.seq.proofs.Tests.{both-true}
-use Rattle.seq.proofs.Places.{lead-all}
 use Rattle.table.specs.declared.Verdict.{Verdict}
 use Rattle.table.specs.declared.Verdict.the-variants.{Taken, Refused}
 use Rattle.table.specs.Verdicts.{taken}
-use Rattle.table.specs.Form.{formVerdict, rowsVerdict, unsoundRow, sound}
-use Rattle.table.proofs.Verdicts.{refuse-taken}
-use Rattle.table.proofs.WellFormed.{form-parts}
+use Rattle.table.specs.Form.{formVerdict}
+use Rattle.table.proofs.WellFormed.{taken-iff}
 use Rattle.rows.specs.Rows.{rowsKept, inBounds, latesKept, Within}
 use Rattle.rows.proofs.Kept.{bounds-kept, lates-within}
 use Rattle.queue.specs.Queue.{proper}
@@ -24,7 +21,6 @@ use Rattle.engine.specs.Legal.{ran, tableLegal, clockLegal, legal}
 use Rattle.engine.specs.Slot.{slotRefusal}
 use Rattle.engine.specs.Calls.{requestRefusal}
 
--- a table that is taken is zero past n
 abbrev isTaken : Verdict → Bool
 isTaken v = taken v true false
 
@@ -32,26 +28,16 @@ is-taken : (v : Verdict) → isTaken v ≡ true → v ≡ Taken
 is-taken Taken e = refl
 is-taken (Refused number row) e = cc
 
-module _ (n : ℕ) (c t d : List ℕ) where
-  sound-rows : rowsVerdict n c t d ≡ Taken → (i : ℕ) → i < 16 → sound n c t d i ≡ true
-  unfolding rowsVerdict unsoundRow
-  sound-rows e = lead-all 16 (sound n c t d) (ltb-false _ _ (refuse-taken (ltb (unsoundRow n c t d) 16) 5 (suc (unsoundRow n c t d)) e))
-
-  form-zero : formVerdict n c t d ≡ Taken → (i : ℕ) → n ≤ i → i < 16 → (at c i ≡ 0) × (at d i ≡ 0)
-  unfolding sound
-  form-zero e i g h =
-      let z = rw (le-ltb i n g) at (sound-rows (form-parts n c t d e .1) i h) in
-      let q = both-true _ _ z in
-      (eqb-true _ _ (both-true _ _ (q .0) .0), eqb-true _ _ (q .1))
-
-  -- so its rows take the test of all places alike
-  module _ (k left counter : List ℕ) where
-    pub rows-tested : isTaken (formVerdict n c t d) && inBounds c d k left counter ≡ isTaken (formVerdict n c t d) && rowsKept n c d k left counter
-    rows-tested = split (isTaken (formVerdict n c t d)) refl
-      where
-        split : (b : Bool) → isTaken (formVerdict n c t d) ≡ b → b && inBounds c d k left counter ≡ b && rowsKept n c d k left counter
-        split true e = bounds-kept n c d k left counter (form-zero (is-taken _ e))
-        split false e = refl
+-- so the rows of a table that is taken take the test of all places alike
+module _ (n : ℕ) (c t d k left counter : List ℕ) where
+  pub rows-tested : isTaken (formVerdict n c t d) && inBounds c d k left counter ≡ isTaken (formVerdict n c t d) && rowsKept n c d k left counter
+  rows-tested = split (isTaken (formVerdict n c t d)) refl
+    where
+      split : (b : Bool) → isTaken (formVerdict n c t d) ≡ b → b && inBounds c d k left counter ≡ b && rowsKept n c d k left counter
+      split true e =
+          let w = taken-iff n c t d .0 (is-taken _ e) in
+          bounds-kept n c d k left counter (λ i g h. let z = w .past i g h in (z .0, z .2))
+      split false e = refl
 
 module _ (s : State) where
   pub record Legal : Type 0 where

@@ -1,2 +1,3 @@
 pub mod Legality
 pub mod Ran
+pub mod Outcomes

@@ -1,4 +1,4 @@
-// The engine: a scheduler state, and what a request, a slot and a late total do to it.
+// The engine: a scheduler state, and what a start, a request, a slot and a late total do to it.
 
 ghost use mathlib.Core.Path.{_≡_};
 ghost use mathlib.Core.Bool.{true, false, cond, _&&_, not};
@@ -12,7 +12,9 @@ ghost use Rattle.engine.specs.declared.Use.the-variants.{Empty};
 ghost use Rattle.engine.specs.States.{lastSlot};
 ghost use Rattle.engine.specs.Slot.{chosen, isGive, chosenUse, usedFor, rowServed, isHard, isGiven, isEmpty, isLost, slotOf};
 ghost use Rattle.engine.specs.Calls.{requestOf, lateTotalOf};
+ghost use Rattle.engine.specs.Start.{blank, noState, startOf};
 use seq::both;
+use table::Table;
 use table::Verdict;
 
 // Of each row its table figures, its allowance, the work left, its counter and its late count; the queue in 32 places; four tallies.
@@ -59,6 +61,11 @@ pub struct Answer {
     pub used: Use,
     pub word: u16,
     pub late: u32,
+}
+
+pub struct Started {
+    pub verdict: Verdict,
+    pub state: State,
 }
 
 pub struct Slotted {
@@ -301,6 +308,62 @@ fn request_refusal(ok: bool, size: u16, count: usize) -> u8
         return 8;
     }
     if 32 <= count { 9 } else { 0 }
+}
+
+fn blank(next: u64, x: Table, k: [u16; 16]) -> State
+    ensures { λ r. ⌜ r ≡ blank next x k ⌝ }
+{
+    let c = x.c;
+    let t = x.t;
+    let d = x.d;
+    State {
+        n: x.n,
+        next: next,
+        c: c,
+        t: t,
+        d: d,
+        k: k,
+        left: [0; 16],
+        counter: [0; 16],
+        late: [0; 16],
+        count: 0,
+        names: [0; 32],
+        sizes: [0; 32],
+        hard: 0,
+        given: 0,
+        empty: 0,
+        lost: 0,
+    }
+}
+
+fn no_state() -> State
+    ensures { λ r. ⌜ r ≡ noState ⌝ }
+{
+    let none = Table {
+        n: 0,
+        c: [0; 16],
+        t: [0; 16],
+        d: [0; 16],
+    };
+    blank(0, none, [0; 16])
+}
+
+pub fn start(x: Table) -> Started
+    ensures { λ r. ⌜ r ≡ startOf x ⌝ }
+{
+    let r = allowance::test(x);
+    let v = r.verdict;
+    let Verdict::Taken = v else {
+        return Started {
+            verdict: v,
+            state: no_state(),
+        };
+    };
+    let k = r.each;
+    Started {
+        verdict: v,
+        state: blank(1, x, k),
+    }
 }
 
 // One working copy; the steps of document 01 in their order, each on the arrays that it changes. Whether the slot is

@@ -10,12 +10,15 @@ use Rattle.engine.specs.States.{with-figures}
 use Rattle.engine.specs.Legal.{legal}
 use Rattle.engine.specs.Slot.{chosen, leftReleased, leftUsed, lates, leftJudged, counter₁, left₁, choiceOf, useOf, lateOf, settled, answered, slotRefusal, slotOf}
 use Rattle.engine.specs.Calls.{joined, requestRefusal, requestOf, lateTotalOf}
-use Rattle.engine.specs.Start.{begun}
+use Rattle.law.specs.Sums.{sum, ceil}
+use Rattle.law.specs.Work.{least, holds, largest}
+use Rattle.allowance.specs.Test.{lackingRow, smallest, allowances, testVerdict, testOf}
+use Rattle.engine.specs.Start.{blank, startOf}
 use Rattle.engine_runs.specs.Runs.{run}
 use Rattle.engine_runs.specs.Cases.{Cases}
 
 pub cases : Cases
-unfolding run begun slotOf slotRefusal requestOf requestRefusal joined lateTotalOf legal settled answered lateOf useOf choiceOf left₁ counter₁ leftJudged lates leftUsed leftReleased chosen with-figures served namesOf sizesOf waiting proper idle reloaded dueWord endWord released noneZero charged worked lateWord dropped counted total rowsKept latesKept sound unsoundRow fallingRow countVerdict rowsVerdict periodsVerdict formVerdict tab over lead every word bit ones
+unfolding run startOf blank testOf testVerdict allowances smallest lackingRow sum ceil least holds largest slotOf slotRefusal requestOf requestRefusal joined lateTotalOf legal settled answered lateOf useOf choiceOf left₁ counter₁ leftJudged lates leftUsed leftReleased chosen with-figures served namesOf sizesOf waiting proper idle reloaded dueWord endWord released noneZero charged worked lateWord dropped counted total rowsKept latesKept sound unsoundRow fallingRow countVerdict rowsVerdict periodsVerdict formVerdict tab over lead every word bit ones
 cases =
     record {
       listing-says = refl;

@@ -2,22 +2,20 @@
 use mathlib.Core.Path.{_≡_}
 use mathlib.Core.List.{List, [], _∷_, _++_}
 use Prim.Native.Nat.{ℕ, _-_}
-use lib.ListN.{length, drop, replicate}
+use lib.ListN.{replicate}
 use Rattle.engine.specs.declared.State.{State}
 use Rattle.engine.specs.declared.Summed.{Summed}
 use Rattle.engine.specs.declared.Use.{Use}
 use Rattle.engine.specs.declared.Use.the-variants.{Hard, Given, Lost}
-use Rattle.engine.specs.States.{Tally, tally}
+use Rattle.engine.specs.States.{tally}
 use Rattle.engine.specs.Calls.{lateTotalOf}
-use Rattle.engine.specs.Start.{begun}
-use Rattle.engine_runs.specs.Runs.{Event, slot, lostSlot, request, Said, answer, number, Run, run}
+use Rattle.allowance.specs.Cases.{tableOf}
+use Rattle.engine.specs.Start.{startOf}
+use Rattle.engine_runs.specs.Runs.{slot, lostSlot, request, Said, answer, number, Run, run}
 
-abbrev padded : List ℕ → List ℕ
-padded l = l ++ replicate (16 - length l) 0
-
--- the start of a table of these C, T, D with these allowances
-abbrev started : List ℕ → List ℕ → List ℕ → List ℕ → State
-started c t d k = begun (record { n = length c; c = padded c; t = padded t; d = padded d }) (padded k)
+-- the start of a table of these rows, as C, T, D
+abbrev started : List (ℕ × ℕ × ℕ) → State
+started l = startOf (tableOf l) .state
 
 -- a slot was run, and no row was late
 abbrev used : Use → Said
@@ -28,23 +26,23 @@ total-is n = record { number = 0; total = n }
 
 -- (1,3,3) (1,4,4) (1,6,6): the listing
 abbrev listing : Run
-listing = run (started (1 ∷ 1 ∷ 1 ∷ []) (3 ∷ 4 ∷ 6 ∷ []) (3 ∷ 4 ∷ 6 ∷ []) (2 ∷ 1 ∷ 1 ∷ [])) (replicate 5 slot ++ request 7 3 ∷ replicate 7 slot)
+listing = run (started ((1, 3, 3) ∷ (1, 4, 4) ∷ (1, 6, 6) ∷ [])) (replicate 5 slot ++ request 7 3 ∷ replicate 7 slot)
 
 -- (2,4,4) (2,5,5): a request waits from before slot 1
 abbrev tight : Run
-tight = run (started (2 ∷ 2 ∷ []) (4 ∷ 5 ∷ []) (4 ∷ 5 ∷ []) (2 ∷ 0 ∷ [])) (request 7 9 ∷ replicate 15 slot)
+tight = run (started ((2, 4, 4) ∷ (2, 5, 5) ∷ [])) (request 7 9 ∷ replicate 15 slot)
 
 -- (1,2,1): slot 1 is lost
 abbrev short : Run
-short = run (started (1 ∷ []) (2 ∷ []) (1 ∷ []) (0 ∷ [])) (lostSlot ∷ [])
+short = run (started ((1, 2, 1) ∷ [])) (lostSlot ∷ [])
 
 -- (1,1,1): 260 slots are lost
 abbrev long : Run
-long = run (started (1 ∷ []) (1 ∷ []) (1 ∷ []) (0 ∷ [])) (replicate 260 lostSlot)
+long = run (started ((1, 1, 1) ∷ [])) (replicate 260 lostSlot)
 
 -- (1,4096,4096): 33 requests of one slot each, a slot, and one request more
 abbrev full : Run
-full = run (started (1 ∷ []) (4096 ∷ []) (4096 ∷ []) (4095 ∷ [])) (replicate 33 (request 7 1) ++ slot ∷ request 8 1 ∷ [])
+full = run (started ((1, 4096, 4096) ∷ [])) (replicate 33 (request 7 1) ++ slot ∷ request 8 1 ∷ [])
 
 pub record Cases : Type 0 where
   pub listing-says :
