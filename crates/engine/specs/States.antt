@@ -1,7 +1,7 @@
 -- A state's parts by name, and states with other parts.
 use Prim.Native.Nat.{ℕ}
 use mathlib.Core.List.{List}
-use lib.ListN.{length, replicate}
+use lib.ListN.{length}
 use Rattle.queue.specs.Queue.{Request, waiting, namesOf, sizesOf}
 use Rattle.engine.specs.declared.State.{State}
 

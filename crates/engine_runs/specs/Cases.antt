@@ -40,9 +40,9 @@ short = run (started ((1, 2, 1) ∷ [])) (lostSlot ∷ [])
 abbrev long : Run
 long = run (started ((1, 1, 1) ∷ [])) (replicate 260 lostSlot)
 
--- (1,4096,4096): 33 requests of one slot each, a slot, and one request more
+-- (1,8,8): 33 requests of one slot each, a slot, and one request more
 abbrev full : Run
-full = run (started ((1, 4096, 4096) ∷ [])) (replicate 33 (request 7 1) ++ slot ∷ request 8 1 ∷ [])
+full = run (started ((1, 8, 8) ∷ [])) (replicate 33 (request 7 1) ++ slot ∷ request 8 1 ∷ [])
 
 pub record Cases : Type 0 where
   pub listing-says :
