@@ -8,9 +8,9 @@ use Rattle.law.specs.Sums.{sum, ceil}
 use Rattle.law.specs.Work.{least, holds, largest}
 use Rattle.table.specs.Form.{sound, unsoundRow, fallingRow, countVerdict, rowsVerdict, periodsVerdict, formVerdict}
 use Rattle.allowance.specs.Test.{lackingRow, smallest, allowances, testVerdict, testOf}
-use Rattle.allowance.specs.Cases.{Right}
+use Rattle.allowance.specs.Cases.{TablesRight}
 use Rattle.allowance.specs.Cases as tables
-use Rattle.allowance.proofs.Cases.{right}
+use Rattle.allowance.proofs.Cases.{tables-right}
 use Rattle.rows.specs.Rows.{idle, reloaded, dueWord, endWord, released, noneZero, charged, worked, lateWord, dropped, counted, total, rowsKept, latesKept}
 use Rattle.queue.specs.Queue.{served, namesOf, sizesOf, waiting, proper}
 use Rattle.engine.specs.States.{with-figures}
@@ -36,14 +36,14 @@ pub not-empty : NotEmpty
 not-empty = computed .1
 
 -- the tables' cases, and more
-with-tables : (l : List tables.Case) → Right l → (r : List Case) → map (λ x. x .gives) r ≡ map (λ x. x .says) r
+with-tables : (l : List tables.Case) → TablesRight l → (r : List Case) → map (λ x. x .gives) r ≡ map (λ x. x .says) r
     → map (λ x. x .gives) (map ofTable l ++ r) ≡ map (λ x. x .says) (map ofTable l ++ r)
-unfolding Right
+unfolding TablesRight
 with-tables [] p r e = e
 with-tables (x ∷ l) p r e = rw (p .0, with-tables l (p .1) r e)
 
 pub cases-hold : CasesHold
-cases-hold = with-tables tables.cases right runs (computed .0)
+cases-hold = with-tables tables.tableCases tables-right runs (computed .0)
 
 -- so each instance of the third row with its deadline in the listing got its slot
 pub listed-in-time : InTime threeRows (told threeRows listingCalls) 2

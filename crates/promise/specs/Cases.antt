@@ -65,7 +65,7 @@ runs =
     ∷ []
 
 abbrev pub cases : List Case
-cases = map ofTable tables.cases ++ runs
+cases = map ofTable tables.tableCases ++ runs
 
 abbrev pub CasesHold : Type 0
 CasesHold = map (λ x. x .gives) cases ≡ map (λ x. x .says) cases
