@@ -116,6 +116,15 @@ pub rest-stays : RestStays
 unfolding writtenOf bufferOf
 rest-stays x b = rest-by x b (writeVerdict x (length b)) refl
 
+-- as many bytes as the writer says are there
+fits-by : (x : Table) (room : ℕ) (v : Verdict) → writeVerdict x room ≡ v → taken v (rowPlace (x .n)) 0 ≤ room
+fits-by x room (Refused k r) e = omega arith
+fits-by x room Taken e = taken-room x room e
+
+pub written-fits : (x : Table) (b : List ℕ) → writtenOf x (length b) .length ≤ length (bufferOf x b)
+unfolding writtenOf
+written-fits x b = omega (arith, fits-by x (length b) (writeVerdict x (length b)) refl, rest-stays x b .1)
+
 -- Read and written.
 
 six-bytes : (s : List ℕ) (p : ℕ) → Bytes s → p + 6 ≤ length s → take 6 (drop p s) ≡ bigBytes (bigAt s (p + 0)) ++ bigBytes (bigAt s (p + 2)) ++ bigBytes (bigAt s (p + 4))
