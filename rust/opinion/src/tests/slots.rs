@@ -266,4 +266,9 @@ fn a_legal_state_at_all_its_limits() {
         most.count = count;
         assert!(!legal(&most));
     }
+
+    // Nothing wrong but that there are no rows.
+    let mut none = State::ZERO;
+    none.next = 1;
+    assert!(!letter::legal(&none) && !legal(&none));
 }
