@@ -7,16 +7,26 @@ ghost use mathlib.Core.Bool.{true};
 ghost use Rattle.engine.specs.Slot.{slotOf};
 ghost use Rattle.engine.specs.Calls.{requestOf};
 ghost use Rattle.report.specs.Listing.{openedOf, shownOf, answerText, numberText, heardOf, totalText};
-
-use table::Verdict;
-use engine::{State, Use, Answer};
+use engine::Answer;
+use engine::State;
+use engine::Use;
 use events::Event;
-use lines::{Line, Shown};
+use lines::Line;
+use lines::Shown;
+use table::Verdict;
 
 // The line may be empty. Where `going` is false no event follows.
-pub struct Opened { pub going: bool, pub line: Line, pub state: State }
+pub struct Opened {
+    pub going: bool,
+    pub line: Line,
+    pub state: State,
+}
 
-pub struct Heard { pub going: bool, pub line: Line, pub state: State }
+pub struct Heard {
+    pub going: bool,
+    pub line: Line,
+    pub state: State,
+}
 
 fn refused(v: Verdict) -> Line
     ensures { λ r. ⌜ r ≡ lineOf (refusedLine (numberOf v) (rowNamed v)) ⌝ }
@@ -32,12 +42,34 @@ pub fn open(s: &[u8]) -> Opened
     let x = r.table;
     let b = engine::start(x);
     let state = b.state;
-    if 65536 < s.len() { return Opened { going: false, line: lines::long_line(), state: state }; }
+    if 65536 < s.len() {
+        return Opened {
+            going: false,
+            line: lines::long_line(),
+            state: state,
+        };
+    }
     let v = r.verdict;
-    let Verdict::Taken = v else { return Opened { going: false, line: refused(v), state: state }; };
+    let Verdict::Taken = v else {
+        return Opened {
+            going: false,
+            line: refused(v),
+            state: state,
+        };
+    };
     let w = b.verdict;
-    let Verdict::Taken = w else { return Opened { going: false, line: refused(w), state: state }; };
-    Opened { going: true, line: lines::blank(), state: state }
+    let Verdict::Taken = w else {
+        return Opened {
+            going: false,
+            line: refused(w),
+            state: state,
+        };
+    };
+    Opened {
+        going: true,
+        line: lines::blank(),
+        state: state,
+    }
 }
 
 fn show(u: Use) -> Shown
@@ -65,7 +97,11 @@ fn answer_line(slot: u64, a: Answer) -> Line
 fn number_line(number: u8) -> Line
     ensures { λ r. ⌜ r ≡ lineOf (numberText number) ⌝ }
 {
-    if number == 0 { lines::blank() } else { lines::refused_line(number, 0) }
+    if number == 0 {
+        lines::blank()
+    } else {
+        lines::refused_line(number, 0)
+    }
 }
 
 fn slot_heard(s: State, lost: bool) -> Heard
@@ -75,7 +111,11 @@ fn slot_heard(s: State, lost: bool) -> Heard
     let r = engine::slot(s, lost);
     let line = answer_line(slot, r.answer);
     let state = r.state;
-    Heard { going: true, line: line, state: state }
+    Heard {
+        going: true,
+        line: line,
+        state: state,
+    }
 }
 
 fn request_heard(s: State, name: u16, size: u16) -> Heard
@@ -84,7 +124,11 @@ fn request_heard(s: State, name: u16, size: u16) -> Heard
     let r = engine::request(s, name, size);
     let line = number_line(r.number);
     let state = r.state;
-    Heard { going: true, line: line, state: state }
+    Heard {
+        going: true,
+        line: line,
+        state: state,
+    }
 }
 
 // What is printed of an event at place p, and the state after it.
@@ -92,11 +136,19 @@ pub fn hear(s: State, e: Event, p: usize) -> Heard
     ensures { λ r. ⌜ r ≡ heardOf s e p ⌝ }
 {
     match e {
-        Event::End => Heard { going: false, line: lines::blank(), state: s },
+        Event::End => Heard {
+            going: false,
+            line: lines::blank(),
+            state: s,
+        },
         Event::Slot => slot_heard(s, false),
         Event::Lost => slot_heard(s, true),
         Event::Request(name, size) => request_heard(s, name, size),
-        Event::Bad => Heard { going: false, line: lines::bad_line(p), state: s },
+        Event::Bad => Heard {
+            going: false,
+            line: lines::bad_line(p),
+            state: s,
+        },
     }
 }
 

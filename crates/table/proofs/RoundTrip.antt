@@ -103,15 +103,6 @@ rest-by x b Taken e = (
   rw (length-append (recordOf x) (drop (rowPlace (x .n)) b), record-length x, length-drop (rowPlace (x .n)) b) (omega (arith, taken-room x (length b) e)),
 )
 
--- as many bytes as the writer says are there
-fits-by : (x : Table) (room : ℕ) (v : Verdict) → writeVerdict x room ≡ v → taken v (rowPlace (x .n)) 0 ≤ room
-fits-by x room (Refused k r) e = omega arith
-fits-by x room Taken e = taken-room x room e
-
-pub written-fits : (x : Table) (room : ℕ) → writtenOf x room .length ≤ room
-unfolding writtenOf
-written-fits x room = fits-by x room (writeVerdict x room) refl
-
 pub rest-stays : RestStays
 unfolding writtenOf bufferOf
 rest-stays x b = rest-by x b (writeVerdict x (length b)) refl
