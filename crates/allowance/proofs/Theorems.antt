@@ -28,7 +28,7 @@ use Rattle.allowance.specs.Accepted.{Holds, Accepted, TestSays, Allowed,
 use Rattle.allowance.specs.Accepted.TestSays.{form, lacks, accepted}
 use Rattle.allowance.specs.Theorems.{AcceptedExactly, VerdictExactly, EachIsLargest, KIsSmallest, RefusedZero, TestOnly, RoomOnly}
 use Rattle.allowance.proofs.Row.{room-is, is-room}
-use Rattle.allowance.proofs.Tests.{taken-well, verdict-taken, verdict-lacks, each-length, each-holds, each-most, each-past, k-least, k-met, refused-is}
+use Rattle.allowance.proofs.Tests.{zeroHeld, rowOf, taken-well, verdict-taken, verdict-lacks, each-length, each-holds, each-most, each-past, k-least, k-met, refused-is}
 
 -- the verdict
 module _ (x : Table) where
@@ -38,32 +38,26 @@ module _ (x : Table) where
   held-is : (i k : ℕ) → Holds x i k → rowHolds (x .c) (x .t) (x .d) i k ≡ true
   held-is i k h = held-holds (at (x .c)) (at (x .t)) i (at (x .d) i) k h
 
-  abbrev row : ℕ
-  row = lackingRow (x .c) (x .t) (x .d) (x .n)
-
-  abbrev zeroHeld : ℕ → Bool
-  zeroHeld i = rowHolds (x .c) (x .t) (x .d) i 0
-
-  rows-say : WellFormed (x .n) (x .c) (x .t) (x .d) → (b : Bool) → ltb row (x .n) ≡ b → TestSays x (refuse b 7 (suc row))
+  rows-say : WellFormed (x .n) (x .c) (x .t) (x .d) → (b : Bool) → ltb (rowOf x) (x .n) ≡ b → TestSays x (refuse b 7 (suc (rowOf x)))
   unfolding lackingRow
   rows-say w true e =
-      let q = ltb-true row (x .n) e in
-      lacks w row q (λ h. true-false (held-is row 0 h) (lead-at (x .n) zeroHeld q)) (λ h r. is-held h 0 (lead-before (x .n) zeroHeld h r))
-  rows-say w false e = accepted (record { form = w; rows = λ i q. is-held i 0 (lead-all (x .n) zeroHeld (ltb-false row (x .n) e) i q) })
+      let q = ltb-true (rowOf x) (x .n) e in
+      lacks w (rowOf x) q (λ h. true-false (held-is (rowOf x) 0 h) (lead-at (x .n) (zeroHeld x) q)) (λ h r. is-held h 0 (lead-before (x .n) (zeroHeld x) h r))
+  rows-say w false e = accepted (record { form = w; rows = λ i q. is-held i 0 (lead-all (x .n) (zeroHeld x) (ltb-false (rowOf x) (x .n) e) i q) })
 
   test-says : TestSays x (testVerdict x)
   unfolding testVerdict
   test-says = go (formOf x) refl
     where
-      go : (v : Verdict) → formOf x ≡ v → TestSays x (v andThen refuse (ltb row (x .n)) 7 (suc row))
-      go Taken e = rows-say (taken-well x e) (ltb row (x .n)) refl
+      go : (v : Verdict) → formOf x ≡ v → TestSays x (v andThen refuse (ltb (rowOf x) (x .n)) 7 (suc (rowOf x)))
+      go Taken e = rows-say (taken-well x e) (ltb (rowOf x) (x .n)) refl
       go (Refused number named) e = form (form-gives (x .n) (x .c) (x .t) (x .d) (Refused number named) .0 e)
 
   says-test : {v : Verdict} → TestSays x v → testOf x .verdict ≡ v
   unfolding testOf testVerdict
   says-test (form f) = rw (form-gives (x .n) (x .c) (x .t) (x .d) _ .1 f)
   says-test (lacks w i q n b) =
-      verdict-lacks x i (taken-iff (x .n) (x .c) (x .t) (x .d) .1 w) q (no-true (zeroHeld i) (λ e. n (is-held i 0 e))) (λ h r. held-is h 0 (b h r))
+      verdict-lacks x i (taken-iff (x .n) (x .c) (x .t) (x .d) .1 w) q (no-true (zeroHeld x i) (λ e. n (is-held i 0 e))) (λ h r. held-is h 0 (b h r))
   says-test (accepted a) = verdict-taken x (taken-iff (x .n) (x .c) (x .t) (x .d) .1 (a .form)) (λ i q. held-is i 0 (a .rows i q))
 
   accepted-of : TestSays x Taken → Accepted x
