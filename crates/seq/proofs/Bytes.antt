@@ -1,12 +1,14 @@
 -- Laws of numbers of two bytes, at any place.
-use mathlib.Core.Path.{_≡_}
+use mathlib.Core.Path.{_≡_, sym}
 use mathlib.Core.List.{List, [], _∷_, _++_}
-use Prim.Native.Nat.{ℕ, suc, _+_, _*_, _/_, _%_, _<_}
+use Prim.Native.Nat.{ℕ, zero, suc, _+_, _*_, _/_, _%_, _<_}
 use native.Mathlib.Nat.{div-add-mod', add-assoc}
+use native.Mathlib.Numerals.{add-one}
 use native.Mathlib.Omega.{arith}
 use lib.ListN.{length, take, drop, set}
-use lib.Seq.{getD-take, getD-drop, sets, getD-append-add}
-use Rattle.seq.specs.Bytes.{bigAt, bigBytes}
+use lib.Seq.{getD-take, getD-drop, sets, getD-append-add, drop-cons}
+use Rattle.seq.specs.Places.{at}
+use Rattle.seq.specs.Bytes.{bigAt, bigBytes, Bytes}
 
 -- in a part of a list, that starts at p
 pub big-part : (m p : ℕ) (l : List ℕ) (q : ℕ) → q + 1 < m → bigAt (take m (drop p l)) q ≡ bigAt l (p + q)
@@ -32,3 +34,25 @@ bytes-big a b h =
     let q : (a * 256 + b) / 256 ≡ a = omega arith in
     let r : (a * 256 + b) % 256 ≡ b = omega arith in
     rw (q, r)
+
+-- bytes of a list, and the number that they spell
+pub part-one : (l : List ℕ) (p : ℕ) → p < length l → take 1 (drop p l) ≡ at l p ∷ []
+part-one l p h = rw (drop-cons l p 0 h)
+
+pub part-big : (l : List ℕ) (p : ℕ) → Bytes l → p + 1 < length l → take 2 (drop p l) ≡ bigBytes (bigAt l p)
+part-big l p b h =
+    rw (drop-cons l p 0 (omega arith), drop-cons l (suc p) 0 (omega arith), ← add-one p) (sym (bytes-big (at l p) (at l (p + 1)) (b (p + 1) h)))
+
+pub append-bytes : (a b : List ℕ) → Bytes a → Bytes b → Bytes (a ++ b)
+append-bytes [] b p q i h = q i h
+append-bytes (x ∷ a) b p q zero h = p 0 (omega arith)
+append-bytes (x ∷ a) b p q (suc i) h = append-bytes a b (λ j g. p (suc j) (omega arith)) q i (omega arith)
+
+pub one-byte : (x : ℕ) → x < 256 → Bytes (x ∷ [])
+one-byte x h zero g = h
+one-byte x h (suc i) g = absurd (omega arith)
+
+pub big-in-bytes : (x : ℕ) → x < 65536 → Bytes (bigBytes x)
+big-in-bytes x h zero g = omega arith
+big-in-bytes x h (suc zero) g = omega arith
+big-in-bytes x h (suc (suc i)) g = absurd (omega arith)

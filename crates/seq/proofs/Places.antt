@@ -7,6 +7,7 @@ use native.Mathlib.Numerals.{add-one}
 use native.Mathlib.Omega.{arith}
 use native.Mathlib.Nat.{zero-min, min-zero, suc-min-suc}
 use lib.ListN.{length, getD, set, replicate}
+use lib.Seq.{ext-getD}
 use Rattle.seq.specs.Places.{at, tab, over, lead}
 
 pub at-zeros : (n i : ℕ) → at (replicate n 0) i ≡ 0
@@ -58,6 +59,17 @@ module _ {A : Type 0} where
   over-min zero f l = rw zero-min
   over-min (suc n) f [] = rw min-zero
   over-min (suc n) f (x ∷ l) = rw (suc-min-suc n (length l), over-min n (λ i. f (suc i)) l)
+
+  -- what it comes to
+  pub over-is : (d : A) (n : ℕ) (f : ℕ → A → A) (l k : List A) → length l ≡ length k → ((i : ℕ) → i < n → i < length l → f i (getD l i d) ≡ getD k i d)
+      → ((i : ℕ) → n ≤ i → i < length l → getD l i d ≡ getD k i d) → over n f l ≡ k
+  unfolding over
+  over-is d zero f l k e a b = ext-getD d l k e (λ i h. b i (omega arith) h)
+  over-is d (suc n) f [] [] e a b = refl
+  over-is d (suc n) f [] (y ∷ k) e a b = absurd (omega arith)
+  over-is d (suc n) f (x ∷ l) [] e a b = absurd (omega arith)
+  over-is d (suc n) f (x ∷ l) (y ∷ k) e a b =
+      rw (a 0 (omega arith) (omega arith), over-is d n (λ i. f (suc i)) l k (omega arith) (λ i h g. a (suc i) (omega arith) (omega arith)) (λ i h g. b (suc i) (omega arith) (omega arith)))
 
   over-set : (d : A) (n : ℕ) (f : ℕ → A → A) (l : List A) → set (over n f l) n (f n (getD l n d)) ≡ over (suc n) f l
   unfolding over

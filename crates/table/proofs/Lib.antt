@@ -2,4 +2,7 @@ pub mod Verdicts
 pub mod Record
 pub mod WellFormed
 pub mod Refusals
+pub mod RoundTrip
+pub mod Theorems
+pub mod Vectors
 pub mod Outcomes

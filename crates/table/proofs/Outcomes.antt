@@ -1,5 +1,4 @@
 -- No two outcomes meet the contract of a public function.
-use mathlib.Core.Path.{_≡_}
 use mathlib.Core.List.{List}
 use Prim.Native.Nat.{ℕ}
 use lib.ListN.{length}

@@ -1,17 +1,16 @@
 // A table of hard periodic tasks: its form, and its record read and written.
 
 ghost use mathlib.Core.Path.{_≡_};
-ghost use mathlib.Core.Bool.{Bool, cond, _&&_, not};
-ghost use Prim.Native.Nat.{ℕ, _+_, _*_, _-_, _≤_, _<_, min};
+ghost use mathlib.Core.Bool.{cond};
 ghost use mathlib.Core.List.{_++_};
+ghost use Prim.Native.Nat.{_+_, _-_, _≤_, _<_, min};
 ghost use lib.ListN.{length, replicate};
 ghost use lib.Seq.{sets};
-ghost use lib.Dec.{ltb};
 ghost use Rattle.seq.specs.Places.{at};
-ghost use Rattle.seq.specs.Bytes.{bigAt, bigBytes};
+ghost use Rattle.seq.specs.Bytes.{bigBytes};
 ghost use Rattle.table.specs.Verdicts.{numberOf, rowNamed, refuse, _andThen_};
-ghost use Rattle.table.specs.Form.{inOrder, allZero, sound, unsoundRow, fallingRow, countVerdict, rowsVerdict, periodsVerdict, formVerdict, formOf, noTable};
-ghost use Rattle.table.specs.Record.{rowPlace, rowSpelt, spelt, headVerdict, readOf, rowBytes, rowsBytes, headBytes, recordOf, writeVerdict, writtenOf, bufferOf};
+ghost use Rattle.table.specs.Form.{inOrder, allZero, unsoundRow, fallingRow, countVerdict, rowsVerdict, periodsVerdict, formVerdict};
+ghost use Rattle.table.specs.Record.{rowPlace, rowSpelt, spelt, headVerdict, readOf, rowsBytes, headBytes, writtenOf, bufferOf};
 use seq::big;
 use seq::both;
 use seq::byte;

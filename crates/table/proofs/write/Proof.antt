@@ -5,7 +5,7 @@ use lib.ListN.{length}
 use lib.Seq.{length-sets}
 use Rattle.table.proofs.Record.{record-put}
 use Rattle.table.proofs.WellFormed.{taken-few}
-use Rattle.table.specs.Record.{headBytes, writeVerdict, writtenOf, bufferOf}
+use Rattle.table.specs.Record.{rowPlace, headBytes, writeVerdict, writtenOf, bufferOf}
 use native.Mathlib.Omega.{arith}
 use borrow.Author.Needs.{needs}
 use Rattle.table.proofs.write.Statement.{statement}
@@ -36,7 +36,8 @@ returns-2 : tie.Need-returns-2
 unfolding writtenOf bufferOf writeVerdict
 returns-2 c =
     let e = sym (c .before .before .before .form .ensures) ∙ c .before .enum-told .given .1 in
-    let l = lt-ltb _ _ (c .if1 .taken) in
+    let a = c .before .before .before .before .before .before .before .before .before .args in
+    let l = lt-ltb (length (a .b .now)) (rowPlace (a .t1 .n)) (omega arith) in
     (rw (e, l), rw (e, l))
 
 put-head-requires : tie.Need-put-head-requires
@@ -56,7 +57,7 @@ unfolding writtenOf bufferOf writeVerdict
 returns-3 c =
     let a = c .before .before .before .before .before .before .before .before .before .before .before .before .before .before .before .before .before .args in
     let e = sym (c .before .before .before .before .before .before .before .before .before .before .before .form .ensures) ∙ c .before .before .before .before .before .before .before .before .before .enum-told .given .1 in
-    let l = le-ltb _ _ (c .before .before .before .before .before .before .before .before .if1 .left) in
+    let l = le-ltb (length (a .b .now)) (rowPlace (a .t1 .n)) (omega arith) in
     (rw (e, l), rw (e, l, c .before .before .put-rows .ensures, c .before .before .before .before .before .before .put-head .ensures) (record-put (a .t1) (a .b .now) (omega arith)))
 
 pub write-spec : {M : Type 1} → statement M
