@@ -3,9 +3,11 @@
 mod records;
 mod say;
 mod tables;
+mod tests;
 
 fn main() {
     tables::all();
     records::reads();
     records::writes();
+    tests::all();
 }

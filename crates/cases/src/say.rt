@@ -30,6 +30,16 @@ pub fn bytes(s: &[u8]) {
     }
 }
 
+fn place(x: u16) {
+    spaced(x as u64);
+}
+
+pub fn places(a: [u16; 16]) {
+    for i in 0..16 {
+        place(a[i]);
+    }
+}
+
 pub fn verdict(v: Verdict) {
     text(b" ->");
     spaced(wide(number_of(v)));
