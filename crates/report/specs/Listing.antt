@@ -5,7 +5,6 @@ use mathlib.Core.Bool.{Bool, true, false, cond}
 use lib.Dec.{eqb, ltb}
 use lib.ListN.{length}
 use Rattle.table.specs.declared.Verdict.{Verdict}
-use Rattle.table.specs.declared.Verdict.the-variants.{Taken, Refused}
 use Rattle.table.specs.Verdicts.{numberOf, rowNamed, taken, _andThen_}
 use Rattle.table.specs.Record.{readOf}
 use Rattle.engine.specs.declared.State.{State}
