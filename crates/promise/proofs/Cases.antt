@@ -7,6 +7,7 @@ use Rattle.seq.specs.Words.{word, bit}
 use Rattle.law.specs.Sums.{sum, ceil}
 use Rattle.law.specs.Work.{least, holds, largest}
 use Rattle.table.specs.Form.{sound, unsoundRow, fallingRow, countVerdict, rowsVerdict, periodsVerdict, formVerdict}
+use Rattle.table.specs.Record.{column, rowsSpelt, spelt, headVerdict, readVerdict, readOf}
 use Rattle.allowance.specs.Test.{lackingRow, smallest, allowances, testVerdict, testOf}
 use Rattle.allowance.specs.Cases.{TablesRight}
 use Rattle.allowance.specs.Cases as tables
@@ -26,7 +27,7 @@ use Rattle.promise.specs.Cases.{Case, ofTable, threeRows, listingCalls, 
 use Rattle.promise.proofs.Demands.{demand3a}
 
 computed : (map (λ x. x .gives) runs ≡ map (λ x. x .says) runs) × NotEmpty
-unfolding tab over lead every word bit sound unsoundRow fallingRow countVerdict rowsVerdict periodsVerdict formVerdict sum ceil least holds largest lackingRow smallest allowances testVerdict testOf blank startOf idle reloaded dueWord endWord released noneZero charged worked lateWord dropped counted total rowsKept latesKept served namesOf sizesOf waiting proper with-figures legal chosen leftReleased leftUsed lates leftJudged counter₁ left₁ choiceOf useOf lateOf settled answered slotRefusal slotOf joined requestRefusal requestOf lateTotalOf step said runOf history moment count forcedUse forcedLeft
+unfolding tab over lead every word bit sound unsoundRow fallingRow countVerdict rowsVerdict periodsVerdict formVerdict column rowsSpelt spelt headVerdict readVerdict readOf sum ceil least holds largest lackingRow smallest allowances testVerdict testOf blank startOf idle reloaded dueWord endWord released noneZero charged worked lateWord dropped counted total rowsKept latesKept served namesOf sizesOf waiting proper with-figures legal chosen leftReleased leftUsed lates leftJudged counter₁ left₁ choiceOf useOf lateOf settled answered slotRefusal slotOf joined requestRefusal requestOf lateTotalOf step said runOf history moment count forcedUse forcedLeft
 computed = (
   refl,
   record { accepted = refl; allowance = refl; given = refl; waits = refl; none-lost = refl; too-many = refl; enough = refl },

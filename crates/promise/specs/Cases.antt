@@ -7,6 +7,9 @@ use mathlib.Core.Bool.{true, false, not}
 use lib.ListN.{length, replicate}
 use Rattle.seq.specs.Places.{lead}
 use Rattle.table.specs.declared.Table.{Table}
+use Rattle.table.specs.declared.Verdict.{Verdict}
+use Rattle.table.specs.declared.Verdict.the-variants.{Refused}
+use Rattle.table.specs.Record.{readOf}
 use Rattle.allowance.specs.declared.Tested.{Tested}
 use Rattle.allowance.specs.Test.{testOf}
 use Rattle.allowance.specs.Cases.{padded, tableOf}
@@ -21,8 +24,9 @@ use Rattle.promise.specs.History.{answerAt, NoneLost}
 use Rattle.promise.specs.Forced.{forcedHistory}
 use Rattle.promise.specs.Demands.{Starts, start, told}
 
--- what a case shows: a table's test; the uses of a run's slots; its first given slot; the late word of its last slot and the late total
+-- what a case shows: a record's verdict; a table's test; the uses of a run's slots; its first given slot; the late word of its last slot and the late total
 pub data Outcome : Type 0 where
+  read : Verdict → Outcome
   tested : Tested → Outcome
   uses : List Use → Outcome
   firstGiven : ℕ → Outcome
@@ -62,6 +66,7 @@ runs =
       says = firstGiven 15;
     }
     ∷ record { gives = latesOf (tableOf ((1, 2, 1) ∷ [])) (slot true ∷ []); says = lates 1 1 }
+    ∷ record { gives = read (readOf (1 ∷ 0 ∷ 1 ∷ 0 ∷ []) .verdict); says = read (Refused 4 0) }
     ∷ []
 
 abbrev pub cases : List Case
