@@ -19,12 +19,12 @@ use Rattle.engine.specs.Legal.{legal}
 use Rattle.engine.specs.Slot.{chosen, leftReleased, leftUsed, lates, leftJudged, counter₁, left₁, choiceOf, useOf, lateOf, settled, answered, slotRefusal, slotOf}
 use Rattle.engine.specs.Start.{blank, startOf}
 use Rattle.engine.specs.Calls.{joined, requestRefusal, requestOf, lateTotalOf}
 use Rattle.promise.specs.Runs.{step, said, runOf, history, moment}
 use Rattle.promise.specs.History.{count}
 use Rattle.promise.specs.Demands.{InTime, told}
 use Rattle.promise.specs.Forced.{forcedUse, forcedLeft}
-use Rattle.promise.specs.Cases.{Case, ofTable, threeRows, listingCalls, runs, CasesHold, NotEmpty}
+use Rattle.starred.specs.Cases.{Case, ofTable, threeRows, listingCalls, runs, CasesHold, NotEmpty}
 use Rattle.promise.proofs.Demands.{demand3a}
 
 computed : (map (λ x. x .gives) runs ≡ map (λ x. x .says) runs) × NotEmpty
 unfolding tab over lead every word bit sound unsoundRow fallingRow countVerdict rowsVerdict periodsVerdict formVerdict column rowsSpelt spelt headVerdict readVerdict readOf sum ceil least holds largest lackingRow smallest allowances testVerdict testOf blank startOf idle reloaded dueWord endWord released noneZero charged worked lateWord dropped counted total rowsKept latesKept served namesOf sizesOf waiting proper with-figures legal chosen leftReleased leftUsed lates leftJudged counter₁ left₁ choiceOf useOf lateOf settled answered slotRefusal slotOf joined requestRefusal requestOf lateTotalOf step said runOf history moment count forcedUse forcedLeft
