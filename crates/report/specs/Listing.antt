@@ -6,7 +6,7 @@ use lib.Dec.{eqb, ltb}
 use lib.ListN.{length}
 use Rattle.table.specs.declared.Verdict.{Verdict}
 use Rattle.table.specs.Verdicts.{numberOf, rowNamed, taken, _andThen_}
-use Rattle.table.specs.Record.{readOf}
+use Rattle.record.specs.Record.{readOf}
 use Rattle.engine.specs.declared.State.{State}
 use Rattle.engine.specs.declared.Started.{Started}
 use Rattle.engine.specs.declared.Answer.{Answer}

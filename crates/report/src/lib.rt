@@ -38,7 +38,7 @@ fn refused(v: Verdict) -> Line
 pub fn open(s: &[u8]) -> Opened
     ensures { λ r. ⌜ r ≡ openedOf (now (s .entry)) ⌝ }
 {
-    let r = table::read(events::record(s));
+    let r = record::read(events::record(s));
     let x = r.table;
     let b = engine::start(x);
     let state = b.state;

@@ -7,7 +7,7 @@ use Rattle.seq.specs.Words.{word, bit}
 use Rattle.law.specs.Sums.{sum, ceil}
 use Rattle.law.specs.Work.{least, holds, largest}
 use Rattle.table.specs.Form.{sound, unsoundRow, fallingRow, countVerdict, rowsVerdict, periodsVerdict, formVerdict}
-use Rattle.table.specs.Record.{column, rowsSpelt, spelt, headVerdict, readVerdict, readOf}
+use Rattle.record.specs.Record.{column, rowsSpelt, spelt, headVerdict, readVerdict, readOf}
 use Rattle.allowance.specs.Test.{lackingRow, smallest, allowances, testVerdict, testOf}
 use Rattle.allowance.specs.Cases.{TablesRight}
 use Rattle.allowance.specs.Cases as tables

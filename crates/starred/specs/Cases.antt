@@ -9,7 +9,7 @@ use Rattle.seq.specs.Places.{lead}
 use Rattle.table.specs.declared.Table.{Table}
 use Rattle.table.specs.declared.Verdict.{Verdict}
 use Rattle.table.specs.declared.Verdict.the-variants.{Refused}
-use Rattle.table.specs.Record.{readOf}
+use Rattle.record.specs.Record.{readOf}
 use Rattle.allowance.specs.declared.Tested.{Tested}
 use Rattle.allowance.specs.Test.{testOf}
 use Rattle.allowance.specs.Cases.{padded, tableOf}

@@ -10,16 +10,17 @@ use borrow.Author.Tests.{ltb-true, ltb-false, eqb-true, eqb-false, lt-ltb, le-lt
 use Rattle.seq.specs.Places.{at}
 use Rattle.seq.specs.Bytes.{bigAt}
 use Rattle.seq.proofs.Tests.{both-true, true-false, no-true}
 use Rattle.table.specs.declared.Table.{Table}
 use Rattle.table.specs.declared.Verdict.{Verdict}
 use Rattle.table.specs.declared.Verdict.the-variants.{Taken, Refused}
 use Rattle.table.specs.Verdicts.{refuse, _andThen_}
 use Rattle.table.specs.Form.{formOf}
-use Rattle.table.specs.Record.{rowPlace, spelt, headVerdict, readVerdict, writeVerdict}
-use Rattle.table.specs.Refusals.{TableSays, Fits, ReadSays, WriteSays}
-use Rattle.table.specs.Refusals.ReadSays.{short, version, field, whole}
-use Rattle.table.specs.Refusals.WriteSays.{form, narrow, enough}
+use Rattle.record.specs.Record.{rowPlace, spelt, headVerdict, readVerdict, writeVerdict}
+use Rattle.table.specs.Refusals.{TableSays}
+use Rattle.record.specs.Refusals.{Fits, ReadSays, WriteSays}
+use Rattle.record.specs.Refusals.ReadSays.{short, version, field, whole}
+use Rattle.record.specs.Refusals.WriteSays.{form, narrow, enough}
 use Rattle.table.proofs.WellFormed.{form-says, says-form}
 
 -- Reading.
 module _ (s : List ℕ) where

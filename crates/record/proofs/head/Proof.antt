@@ -1,15 +1,15 @@
--- `table::head` meets its contract. Assumes nothing.
+-- `record::head` meets its contract. Assumes nothing.
 use mathlib.Core.Path.{_≡_, _∙_}
 use borrow.Author.Tests.{eq-eqb, ne-eqb, lt-ltb, le-ltb}
 use lib.ListN.{length}
 use Rattle.seq.specs.Places.{at}
 use Rattle.seq.specs.Bytes.{bigAt}
 use Rattle.seq.proofs.Bytes.{big-part}
-use Rattle.table.specs.Record.{headVerdict}
+use Rattle.record.specs.Record.{headVerdict}
 use native.Mathlib.Omega.{arith}
 use borrow.Author.Needs.{needs}
-use Rattle.table.proofs.head.Statement.{statement}
-use Rattle.table.proofs.head.Tie as tie
+use Rattle.record.proofs.head.Statement.{statement}
+use Rattle.record.proofs.head.Tie as tie
 
 returns : tie.Need-returns
 unfolding headVerdict

@@ -12,11 +12,11 @@ use Rattle.seq.specs.Bytes.{bigAt}
 use Rattle.seq.proofs.Places.{over-more, over-min}
 use Rattle.seq.proofs.Bytes.{big-part, sets-sets}
 use Rattle.seq.proofs.Tests.{both-true}
 use Rattle.table.specs.declared.Table.{Table}
-use Rattle.table.specs.declared.Row.{Row}
-use Rattle.table.specs.Record.{rowPlace, rowSpelt, column, rowsSpelt, spelt, headVerdict, rowBytes, rowsBytes, headBytes, recordOf}
+use Rattle.record.specs.declared.Row.{Row}
+use Rattle.record.specs.Record.{rowPlace, rowSpelt, column, rowsSpelt, spelt, headVerdict, rowBytes, rowsBytes, headBytes, recordOf}
 use Rattle.table.specs.declared.Verdict.the-variants.{Taken}
 use Rattle.table.proofs.Verdicts.{and-taken, refuse-taken}
 
 -- read
 pub column-more : (s : List ℕ) (i p x : ℕ) → x ≡ bigAt s (rowPlace i + p) → set (column s i p) i x ≡ column s (i + 1) p

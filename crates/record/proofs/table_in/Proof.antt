@@ -1,13 +1,13 @@
--- `table::table_in` meets its contract. Assumes nothing.
+-- `record::table_in` meets its contract. Assumes nothing.
 use mathlib.Core.Path.{_≡_, _∙_}
 use Rattle.seq.specs.Places.{at, over}
-use Rattle.table.proofs.Record.{spelt-more, spelt-min}
-use Rattle.table.specs.Record.{rowPlace, column, rowsSpelt}
+use Rattle.record.proofs.Record.{spelt-more, spelt-min}
+use Rattle.record.specs.Record.{rowPlace, column, rowsSpelt}
 use Prim.Native.Nat.{_≤_, _-_, _+_, min}
 use native.Mathlib.Omega.{arith}
 use borrow.Author.Needs.{needs}
-use Rattle.table.proofs.table_in.Statement.{statement}
-use Rattle.table.proofs.table_in.Tie as tie
+use Rattle.record.proofs.table_in.Statement.{statement}
+use Rattle.record.proofs.table_in.Tie as tie
 
 abbrev Inv-loop : tie.InvT-loop
 Inv-loop s n m x₀ i₀ x i = (i ≤ m) × (x ≡ rowsSpelt s i)
@@ -21,8 +21,8 @@ byte-requires c κs = search needs
 wide-requires : tie.Need-wide-requires Inv-loop μ-loop
 wide-requires c κs = search needs
 
-rows-requires : tie.Need-rows-requires Inv-loop μ-loop
-rows-requires c κs = search needs
+lesser-requires : tie.Need-lesser-requires Inv-loop μ-loop
+lesser-requires c κs = search needs
 
 none-requires : tie.Need-none-requires Inv-loop μ-loop
 none-requires c κs = search needs
@@ -86,7 +86,7 @@ returns : tie.Need-returns Inv-loop μ-loop
 returns c =
     let l = c .before .loop in
     let s = c .before .before .before .before .before .before .before .args .s .now in
-    let e : l .i ≡ min (at s 3) 16 = omega (arith, c .before .before .before .rows .ensures, c .before .before .before .before .wide .ensures, c .before .before .before .before .before .byte .ensures .0) in
+    let e : l .i ≡ min (at s 3) 16 = omega (arith, c .before .before .before .lesser .ensures, c .before .before .before .before .wide .ensures, c .before .before .before .before .before .byte .ensures .0) in
     l .inv .1 ∙ rw e (spelt-min s)
 
 pub table-in-spec : {M : Type 1} → statement M
@@ -97,7 +97,7 @@ table-in-spec =
     μ-loop
     byte-requires
     wide-requires
-    rows-requires
+    lesser-requires
     none-requires
     loop-holds
     mul-a

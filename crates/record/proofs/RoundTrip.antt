@@ -13,18 +13,18 @@ use Rattle.seq.specs.Places.{at}
 use Rattle.seq.specs.Bytes.{bigAt, bigBytes, Bytes}
 use Rattle.seq.proofs.Places.{over-is, over-in}
 use Rattle.seq.proofs.Bytes.{big-bytes, big-behind, part-one, part-big, append-bytes, one-byte, big-in-bytes}
 use Rattle.table.specs.declared.Table.{Table}
-use Rattle.table.specs.declared.Reading.{Reading}
+use Rattle.record.specs.declared.Reading.{Reading}
 use Rattle.table.specs.declared.Verdict.{Verdict}
 use Rattle.table.specs.declared.Verdict.the-variants.{Taken, Refused}
 use Rattle.table.specs.Verdicts.{refuse, taken}
 use Rattle.table.specs.Form.{formOf}
-use Rattle.table.specs.Record.{rowPlace, column, rowsSpelt, spelt, headVerdict, readVerdict, readOf, rowBytes, rowsBytes, headBytes, recordOf, writeVerdict, writtenOf, bufferOf}
+use Rattle.record.specs.Record.{rowPlace, column, rowsSpelt, spelt, headVerdict, readVerdict, readOf, rowBytes, rowsBytes, headBytes, recordOf, writeVerdict, writtenOf, bufferOf}
 use Rattle.table.specs.WellFormed.{WellFormed}
-use Rattle.table.specs.Theorems.{Columns, ReadsBack, BufferReadsBack, RestStays, WritesBack, WritesBytes, OneRecord, OneTable}
+use Rattle.record.specs.Theorems.{Columns, ReadsBack, BufferReadsBack, RestStays, WritesBack, WritesBytes, OneRecord, OneTable}
 use Rattle.table.proofs.Verdicts.{and-taken, refuse-taken}
 use Rattle.table.proofs.WellFormed.{taken-iff, taken-few}
-use Rattle.table.proofs.Record.{rows-length, record-length, head-taken}
+use Rattle.record.proofs.Record.{rows-length, record-length, head-taken}
 
 -- Written and read.
 

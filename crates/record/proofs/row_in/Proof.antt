@@ -1,9 +1,9 @@
--- `table::row_in` meets its contract. Assumes nothing.
+-- `record::row_in` meets its contract. Assumes nothing.
 use Rattle.seq.proofs.Bytes.{big-part}
 use native.Mathlib.Omega.{arith}
 use borrow.Author.Needs.{needs}
-use Rattle.table.proofs.row_in.Statement.{statement}
-use Rattle.table.proofs.row_in.Tie as tie
+use Rattle.record.proofs.row_in.Statement.{statement}
+use Rattle.record.proofs.row_in.Tie as tie
 
 sub-big : tie.Need-sub-big
 sub-big c = search needs

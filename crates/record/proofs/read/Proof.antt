@@ -1,11 +1,11 @@
--- `table::read` meets its contract. Assumes nothing.
+-- `record::read` meets its contract. Assumes nothing.
 use mathlib.Core.Path.{sym, _∙_}
-use Rattle.table.proofs.Record.{head-taken}
-use Rattle.table.specs.Record.{readVerdict, readOf}
+use Rattle.record.proofs.Record.{head-taken}
+use Rattle.record.specs.Record.{readVerdict, readOf}
 use native.Mathlib.Omega.{arith}
 use borrow.Author.Needs.{needs}
-use Rattle.table.proofs.read.Statement.{statement}
-use Rattle.table.proofs.read.Tie as tie
+use Rattle.record.proofs.read.Statement.{statement}
+use Rattle.record.proofs.read.Tie as tie
 
 head-requires : tie.Need-head-requires
 head-requires c κs = search needs

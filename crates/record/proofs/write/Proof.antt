@@ -1,15 +1,15 @@
--- `table::write` meets its contract. Assumes nothing.
+-- `record::write` meets its contract. Assumes nothing.
 use mathlib.Core.Path.{ap, sym, _∙_}
 use borrow.Author.Tests.{lt-ltb, le-ltb}
 use lib.ListN.{length}
 use lib.Seq.{length-sets}
-use Rattle.table.proofs.Record.{record-put}
+use Rattle.record.proofs.Record.{record-put}
 use Rattle.table.proofs.WellFormed.{taken-few}
-use Rattle.table.specs.Record.{rowPlace, headBytes, writeVerdict, writtenOf, bufferOf}
+use Rattle.record.specs.Record.{rowPlace, headBytes, writeVerdict, writtenOf, bufferOf}
 use native.Mathlib.Omega.{arith}
 use borrow.Author.Needs.{needs}
-use Rattle.table.proofs.write.Statement.{statement}
-use Rattle.table.proofs.write.Tie as tie
+use Rattle.record.proofs.write.Statement.{statement}
+use Rattle.record.proofs.write.Tie as tie
 
 form-requires : tie.Need-form-requires
 form-requires c κs = search needs

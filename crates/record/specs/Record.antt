@@ -6,13 +6,13 @@ use lib.Dec.{eqb, ltb}
 use lib.ListN.{length, drop, replicate}
 use Rattle.seq.specs.Places.{at, over}
 use Rattle.seq.specs.Bytes.{bigAt, bigBytes}
 use Rattle.table.specs.declared.Table.{Table}
-use Rattle.table.specs.declared.Row.{Row}
-use Rattle.table.specs.declared.Reading.{Reading}
-use Rattle.table.specs.declared.Written.{Written}
+use Rattle.record.specs.declared.Row.{Row}
+use Rattle.record.specs.declared.Reading.{Reading}
+use Rattle.record.specs.declared.Written.{Written}
 use Rattle.table.specs.declared.Verdict.{Verdict}
 use Rattle.table.specs.Verdicts.{refuse, _andThen_, taken}
 use Rattle.table.specs.Form.{formOf, noTable}
 
 -- the place of row i, and the length of a record of n rows
 abbrev pub rowPlace : ℕ → ℕ
