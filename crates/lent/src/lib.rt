@@ -6,7 +6,7 @@ ghost use Rattle.engine.specs.Calls.{requestOf};
 ghost use Rattle.lent.specs.Face.{useNumber, useWho, saidOf, isOn, slotSaid, requestTold};
 use engine::Answer;
 use engine::State;
-use engine::Use;
+use uses::Use;
 
 // number: 0, or the refusal. used: 0 empty, 1 hard, 2 given, 3 lost. word: bit 0 for row 1 late. late: how many rows are late.
 // who: the row that got the slot, from 1 on, or the name of the request.

@@ -10,8 +10,8 @@ use Rattle.record.specs.Record.{readOf}
 use Rattle.engine.specs.declared.State.{State}
 use Rattle.engine.specs.declared.Started.{Started}
 use Rattle.engine.specs.declared.Answer.{Answer}
-use Rattle.engine.specs.declared.Use.{Use}
-use Rattle.engine.specs.declared.Use.the-variants as use-for
+use Rattle.uses.specs.declared.Use.{Use}
+use Rattle.uses.specs.declared.Use.the-variants as use-for
 use Rattle.engine.specs.Slot.{slotOf}
 use Rattle.engine.specs.Calls.{requestOf, lateTotalOf}
 use Rattle.engine.specs.Start.{startOf}

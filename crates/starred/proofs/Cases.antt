@@ -12,11 +12,16 @@ use Rattle.allowance.specs.Test.{lackingRow, smallest, allowances, testVerdict,
 use Rattle.allowance.specs.Cases.{TablesRight}
 use Rattle.allowance.specs.Cases as tables
 use Rattle.allowance.proofs.Cases.{tables-right}
-use Rattle.rows.specs.Rows.{idle, reloaded, dueWord, endWord, released, noneZero, charged, worked, lateWord, dropped, counted, total, rowsKept, latesKept}
+use Rattle.rows.specs.Rows.{idle, reloaded, released, noneZero, charged, worked}
+use Rattle.marks.specs.Words.{dueWord, endWord, lateWord}
+use Rattle.late.specs.Late.{dropped, counted, total}
+use Rattle.legal.specs.Kept.{rowsKept, latesKept}
 use Rattle.queue.specs.Queue.{served, namesOf, sizesOf, waiting, proper}
 use Rattle.engine.specs.States.{with-figures}
+use Rattle.legal.specs.Legal.{figuresLegal}
 use Rattle.engine.specs.Legal.{legal}
-use Rattle.engine.specs.Slot.{chosen, leftReleased, leftUsed, lates, leftJudged, counter₁, left₁, choiceOf, useOf, lateOf, settled, answered, slotRefusal, slotOf}
+use Rattle.uses.specs.Uses.{chosen}
+use Rattle.engine.specs.Slot.{leftReleased, leftUsed, lates, leftJudged, counter₁, left₁, choiceOf, useOf, lateOf, settled, answered, slotRefusal, slotOf}
 use Rattle.engine.specs.Start.{blank, startOf}
 use Rattle.engine.specs.Calls.{joined, requestRefusal, requestOf, lateTotalOf}
 use Rattle.promise.specs.Runs.{step, said, runOf, history, moment}
@@ -27,7 +32,7 @@ use Rattle.starred.specs.Cases.{Case, ofTable, threeRows, listingCalls, 
 use Rattle.promise.proofs.Demands.{demand3a}
 
 computed : (map (λ x. x .gives) runs ≡ map (λ x. x .says) runs) × NotEmpty
-unfolding tab over lead every word bit sound unsoundRow fallingRow countVerdict rowsVerdict periodsVerdict formVerdict column rowsSpelt spelt headVerdict readVerdict readOf sum ceil least holds largest lackingRow smallest allowances testVerdict testOf blank startOf idle reloaded dueWord endWord released noneZero charged worked lateWord dropped counted total rowsKept latesKept served namesOf sizesOf waiting proper with-figures legal chosen leftReleased leftUsed lates leftJudged counter₁ left₁ choiceOf useOf lateOf settled answered slotRefusal slotOf joined requestRefusal requestOf lateTotalOf step said runOf history moment count forcedUse forcedLeft
+unfolding tab over lead every word bit sound unsoundRow fallingRow countVerdict rowsVerdict periodsVerdict formVerdict column rowsSpelt spelt headVerdict readVerdict readOf sum ceil least holds largest lackingRow smallest allowances testVerdict testOf blank startOf idle reloaded dueWord endWord released noneZero charged worked lateWord dropped counted total rowsKept latesKept served namesOf sizesOf waiting proper with-figures legal figuresLegal chosen leftReleased leftUsed lates leftJudged counter₁ left₁ choiceOf useOf lateOf settled answered slotRefusal slotOf joined requestRefusal requestOf lateTotalOf step said runOf history moment count forcedUse forcedLeft
 computed = (
   refl,
   record { accepted = refl; allowance = refl; given = refl; waits = refl; none-lost = refl; too-many = refl; enough = refl },

@@ -15,9 +15,10 @@ use Rattle.allowance.specs.Test.{testOf}
 use Rattle.allowance.specs.Cases.{padded, tableOf}
 use Rattle.allowance.specs.Cases as tables
 use Rattle.engine.specs.declared.Answer.{Answer}
-use Rattle.engine.specs.declared.Use.{Use}
-use Rattle.engine.specs.declared.Use.the-variants.{Hard, Given}
-use Rattle.engine.specs.Slot.{isGiven, left₁}
+use Rattle.uses.specs.declared.Use.{Use}
+use Rattle.uses.specs.declared.Use.the-variants.{Hard, Given}
+use Rattle.uses.specs.Uses.{isGiven}
+use Rattle.engine.specs.Slot.{left₁}
 use Rattle.engine.specs.Calls.{lateTotalOf}
 use Rattle.promise.specs.Runs.{Call, slot, request, runOf, moment}
 use Rattle.promise.specs.History.{answerAt, NoneLost}
