@@ -6,11 +6,12 @@ use native.Mathlib.Omega.{arith}
 use borrow.Author.Tests.{le-leb}
 use lib.ListN.{length, length-append}
 use lib.Seq.{sets}
-use Rattle.lines.specs.Lines.{useText, slotLine, refusedLine, badLine, totalLine, longLine, lineOf, said, withText, behind}
+use Rattle.text.specs.Text.{lineOf, said, withText, behind}
+use Rattle.lines.specs.Lines.{useText, slotLine, refusedLine, badLine, totalLine, longLine}
 use Rattle.lines.specs.declared.Shown.{Shown}
 use Rattle.lines.specs.declared.Shown.the-variants.{Hard, Given, Empty, Lost}
-use Rattle.lines.proofs.Numbers.{decimal-twenty}
-use Rattle.lines.proofs.Laid.{line-said}
+use Rattle.text.proofs.Numbers.{decimal-twenty}
+use Rattle.text.proofs.Laid.{line-said}
 
 -- the number behind the letter
 abbrev pub shownNumber : Shown → ℕ

@@ -20,7 +20,8 @@ use Rattle.events.specs.declared.Event.the-variants as event
 use Rattle.events.specs.Events.{recordOf, recordLength, eventAt, widthOf}
 use Rattle.lines.specs.declared.Shown.{Shown}
 use Rattle.lines.specs.declared.Shown.the-variants as shown
-use Rattle.lines.specs.Lines.{slotLine, refusedLine, badLine, totalLine, longLine, lineOf}
+use Rattle.lines.specs.Lines.{slotLine, refusedLine, badLine, totalLine, longLine}
+use Rattle.text.specs.Text.{lineOf}
 use Rattle.report.specs.declared.Heard.{Heard}
 use Rattle.report.specs.declared.Opened.{Opened}
 

@@ -1,7 +1,8 @@
 // What the listing prints: how a run opens, what is said of each event, and the total.
 
 ghost use mathlib.Core.Path.{_≡_};
-ghost use Rattle.lines.specs.Lines.{lineOf, refusedLine};
+ghost use Rattle.text.specs.Text.{lineOf};
+ghost use Rattle.lines.specs.Lines.{refusedLine};
 ghost use Rattle.table.specs.Verdicts.{numberOf, rowNamed};
 ghost use mathlib.Core.Bool.{true};
 ghost use Rattle.engine.specs.Slot.{slotOf};
@@ -10,9 +11,9 @@ ghost use Rattle.report.specs.Listing.{openedOf, shownOf, answerText, nu
 use engine::Answer;
 use engine::State;
 use events::Event;
-use lines::Line;
 use lines::Shown;
 use table::Verdict;
+use text::Line;
 use uses::Use;
 
 // The line may be empty. Where `going` is false no event follows.
@@ -67,7 +68,7 @@ pub fn open(s: &[u8]) -> Opened
     };
     Opened {
         going: true,
-        line: lines::blank(),
+        line: text::blank(),
         state: state,
     }
 }
@@ -98,7 +99,7 @@ fn number_line(number: u8) -> Line
     ensures { λ r. ⌜ r ≡ lineOf (numberText number) ⌝ }
 {
     if number == 0 {
-        lines::blank()
+        text::blank()
     } else {
         lines::refused_line(number, 0)
     }
@@ -138,7 +139,7 @@ pub fn hear(s: State, e: Event, p: usize) -> Heard
     match e {
         Event::End => Heard {
             going: false,
-            line: lines::blank(),
+            line: text::blank(),
             state: s,
         },
         Event::Slot => slot_heard(s, false),

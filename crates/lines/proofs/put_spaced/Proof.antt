@@ -2,8 +2,8 @@
 use mathlib.Core.Path.{_≡_}
 use borrow.Author.Needs.{needs}
 use lib.ListN.{length}
-use Rattle.lines.specs.Lines.{text, decimal}
-use Rattle.lines.proofs.Laid.{piece-more}
+use Rattle.text.specs.Text.{text, decimal}
+use Rattle.text.proofs.Laid.{piece-more}
 use Rattle.lines.proofs.put_spaced.Statement.{statement}
 use Rattle.lines.proofs.put_spaced.Tie as tie
 

@@ -3,8 +3,9 @@ use mathlib.Core.Path.{_≡_}
 use borrow.Author.Needs.{needs}
 use lib.ListN.{length}
 use Rattle.lines.specs.declared.Shown.the-variants.{Hard, Given, Empty, Lost}
-use Rattle.lines.specs.Lines.{text, decimal, useText}
-use Rattle.lines.proofs.Laid.{piece-more}
+use Rattle.text.specs.Text.{text, decimal}
+use Rattle.lines.specs.Lines.{useText}
+use Rattle.text.proofs.Laid.{piece-more}
 use Rattle.lines.proofs.put_use.Statement.{statement}
 use Rattle.lines.proofs.put_use.Tie as tie
 

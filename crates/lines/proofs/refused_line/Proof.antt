@@ -1,6 +1,6 @@
 -- `lines::refused_line` meets its contract. Assumes nothing.
 use borrow.Author.Needs.{needs}
-use Rattle.lines.proofs.Laid.{line-more}
+use Rattle.text.proofs.Laid.{line-more}
 use Rattle.lines.proofs.refused_line.Statement.{statement}
 use Rattle.lines.proofs.refused_line.Tie as tie
 

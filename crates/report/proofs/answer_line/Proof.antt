@@ -3,7 +3,8 @@ use mathlib.Core.Path.{ap, _∙_}
 use borrow.Author.Tests.{eq-eqb, ne-eqb}
 use Rattle.table.specs.Verdicts.{taken}
 use Rattle.lines.specs.declared.Shown.{Shown}
-use Rattle.lines.specs.Lines.{slotLine, lineOf}
+use Rattle.lines.specs.Lines.{slotLine}
+use Rattle.text.specs.Text.{lineOf}
 use borrow.Author.Needs.{needs}
 use Rattle.report.proofs.answer_line.Statement.{statement}
 use Rattle.report.proofs.answer_line.Tie as tie

@@ -10,7 +10,8 @@ use Rattle.table.specs.Verdicts.{numberOf, rowNamed}
 use Rattle.record.specs.Record.{readOf}
 use Rattle.engine.specs.declared.Started.{Started}
 use Rattle.engine.specs.Start.{startOf}
-use Rattle.lines.specs.Lines.{refusedLine, lineOf}
+use Rattle.lines.specs.Lines.{refusedLine}
+use Rattle.text.specs.Text.{lineOf}
 use Rattle.report.specs.Listing.{openingText, goesAhead, openedOf}
 use borrow.Author.Needs.{needs}
 use Rattle.report.proofs.open.Statement.{statement}

@@ -2,7 +2,7 @@
 use mathlib.Core.Path.{ap, _∙_}
 use mathlib.Core.Bool.{true}
 use Rattle.engine.specs.declared.Slotted.{Slotted}
-use Rattle.lines.specs.Lines.{lineOf}
+use Rattle.text.specs.Text.{lineOf}
 use Rattle.report.specs.Listing.{answerText}
 use borrow.Author.Needs.{needs}
 use Rattle.report.proofs.slot_heard.Statement.{statement}

@@ -1,7 +1,8 @@
 -- `report::total` meets its contract. Assumes nothing.
 use mathlib.Core.Path.{ap, _∙_}
 use Rattle.engine.specs.declared.Summed.{Summed}
-use Rattle.lines.specs.Lines.{totalLine, lineOf}
+use Rattle.lines.specs.Lines.{totalLine}
+use Rattle.text.specs.Text.{lineOf}
 use Rattle.report.specs.Listing.{totalText}
 use borrow.Author.Needs.{needs}
 use Rattle.report.proofs.total.Statement.{statement}

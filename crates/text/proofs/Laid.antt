@@ -6,8 +6,8 @@ use native.Mathlib.Omega.{arith}
 use lib.ListN.{length, replicate, length-append, length-take}
 use lib.Seq.{sets-eq, take-at}
 use Rattle.seq.proofs.Bytes.{sets-cut}
-use Rattle.lines.specs.Lines.{emptyLine, lineOf, extended, said}
-use Rattle.lines.specs.declared.Line.{Line}
+use Rattle.text.specs.Text.{emptyLine, lineOf, extended, said}
+use Rattle.text.specs.declared.Line.{Line}
 
 -- More behind a line, and more again
 places : (n a b : ℕ) → n + min a (128 - n) + min b (128 - (n + min a (128 - n))) ≡ n + min (a + b) (128 - n)

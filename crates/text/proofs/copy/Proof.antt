@@ -1,4 +1,4 @@
--- `lines::copy` meets its contract. Assumes nothing.
+-- `text::copy` meets its contract. Assumes nothing.
 use mathlib.Core.Path.{_≡_, ap, refl, _∙_}
 use Prim.Native.Nat.{ℕ, _≤_, _-_, _+_, min}
 use native.Mathlib.Omega.{arith}
@@ -6,8 +6,8 @@ use borrow.Author.Needs.{needs}
 use lib.Seq.{length-sets, sets}
 use lib.ListN.{length, take}
 use Rattle.seq.proofs.Bytes.{sets-more, sets-room}
-use Rattle.lines.proofs.copy.Statement.{statement}
-use Rattle.lines.proofs.copy.Tie as tie
+use Rattle.text.proofs.copy.Statement.{statement}
+use Rattle.text.proofs.copy.Tie as tie
 
 abbrev Inv-loop : tie.InvT-loop
 Inv-loop out₀ p t n i₀ out i = (i ≤ n) × (n ≡ min (length t) (length out₀ - p)) × (out ≡ sets out₀ p (take i t))
@@ -18,8 +18,8 @@ abbrev μ-loop : tie.MeasureT-loop
 room-requires : tie.Need-room-requires Inv-loop μ-loop
 room-requires c κs = search needs
 
-least-requires : tie.Need-least-requires Inv-loop μ-loop
-least-requires c κs = search needs
+lesser-requires : tie.Need-lesser-requires Inv-loop μ-loop
+lesser-requires c κs = search needs
 
 loop-holds : tie.Need-loop-holds Inv-loop μ-loop
 loop-holds c = (omega arith, omega arith, refl)
@@ -56,7 +56,7 @@ same-length c = ap length (c .before .loop .inv .2) ∙ simp length-sets
 returns : tie.Need-returns Inv-loop μ-loop
 returns c =
     let l = c .before .loop in
-    let e : l .i ≡ c .before .before .least .result = omega arith in
+    let e : l .i ≡ c .before .before .lesser .result = omega arith in
     (ap (λ (n : ℕ). c .before .before .before .before .before .before .args .p + n) (l .inv .1), rw (l .inv .2, e) (sets-room _ _ _ _ (l .inv .1)))
 
 pub copy-spec : {M : Type 1} → statement M
@@ -66,7 +66,7 @@ copy-spec =
     Inv-loop
     μ-loop
     room-requires
-    least-requires
+    lesser-requires
     loop-holds
     shared-slice-read-out
     add-out

@@ -10,7 +10,7 @@ use lib.Dec.{ltb}
 use lib.ListN.{length, drop, set, length-append, length-set}
 use lib.Seq.{drop-cons, getD-set-same, drop-set-lt, append-snoc}
 use Rattle.seq.specs.Places.{at}
-use Rattle.lines.specs.Lines.{digit, digitsThen, decimal}
+use Rattle.text.specs.Text.{digit, digitsThen, decimal}
 
 -- enough steps are enough
 enough : (n m q r : ℕ) → q ≤ n → q ≤ m → digitsThen n q r ≡ digitsThen m q r

@@ -1,4 +1,4 @@
--- `lines::append` meets its contract. Assumes nothing.
+-- `text::append` meets its contract. Assumes nothing.
 use mathlib.Core.Path.{_≡_, sym, _∙_}
 use mathlib.Core.Bool.{true, false}
 use Prim.Native.Nat.{_-_, _+_, min}
@@ -9,13 +9,13 @@ use lib.Seq.{length-take-le}
 use lib.ListN.{length, take}
 use lib.Dec.{leb}
 use Rattle.seq.proofs.Places.{take-most}
-use Rattle.lines.specs.Lines.{said, behind, withText}
-use Rattle.lines.proofs.Laid.{said-length}
-use Rattle.lines.proofs.append.Statement.{statement}
-use Rattle.lines.proofs.append.Tie as tie
+use Rattle.text.specs.Text.{said, behind, withText}
+use Rattle.text.proofs.Laid.{said-length}
+use Rattle.text.proofs.append.Statement.{statement}
+use Rattle.text.proofs.append.Tie as tie
 
-least-requires : tie.Need-least-requires
-least-requires c κs = search needs
+lesser-requires : tie.Need-lesser-requires
+lesser-requires c κs = search needs
 
 fits-requires : tie.Need-fits-requires
 fits-requires c κs = search needs
@@ -26,7 +26,7 @@ returns c =
     let a = c .before .before .before .before .before .args in
     let e : length (a .line .bytes) ≡ 128 = search needs in
     let f : leb (a .p + length (said (a .line))) (length (a .out .now)) ≡ false =
-    rw (said-length (a .line) e, ← c .before .before .least .ensures) (sym (c .before .fits2 .ensures) ∙ not-true _ (c .if1 .taken)) in
+    rw (said-length (a .line) e, ← c .before .before .lesser .ensures) (sym (c .before .fits2 .ensures) ∙ not-true _ (c .if1 .taken)) in
     (rw f, rw f)
 
 array-share-prefix-b : tie.Need-array-share-prefix-b
@@ -51,7 +51,7 @@ unfolding behind withText
 returns-2 c =
     let a = c .before .before .before .before .before .before .before .before .before .before .args in
     let t = said (a .line) in
-    let n = c .before .before .before .before .before .before .before .least in
+    let n = c .before .before .before .before .before .before .before .lesser in
     let x = c .before .before .copy in
     let e : length (a .line .bytes) ≡ 128 = search needs in
     let m : take (n .result) (a .line .bytes) ≡ t = take-most (a .line .length) (n .result) (a .line .bytes) (rw e (n .ensures)) in
@@ -64,7 +64,7 @@ pub append-spec : {M : Type 1} → statement M
 append-spec =
     tie.close
     (tie.spec
-    least-requires
+    lesser-requires
     fits-requires
     returns
     array-share-prefix-b

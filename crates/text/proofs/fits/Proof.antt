@@ -1,11 +1,11 @@
--- `lines::fits` meets its contract. Assumes nothing.
+-- `text::fits` meets its contract. Assumes nothing.
 use mathlib.Core.Path.{sym}
 use Prim.Native.Nat.{_-_, _+_}
 use native.Mathlib.Omega.{arith}
 use borrow.Author.Tests.{lt-leb}
 use Rattle.seq.proofs.Places.{leb-alike}
-use Rattle.lines.proofs.fits.Statement.{statement}
-use Rattle.lines.proofs.fits.Tie as tie
+use Rattle.text.proofs.fits.Statement.{statement}
+use Rattle.text.proofs.fits.Tie as tie
 
 returns : tie.Need-returns
 returns c = let a = c .before .args in sym (lt-leb (a .p + a .n) (a .size) (omega arith))

@@ -1,14 +1,14 @@
--- `lines::spell` meets its contract. Assumes nothing.
+-- `text::spell` meets its contract. Assumes nothing.
 use mathlib.Core.Path.{_≡_, refl, _∙_}
 use mathlib.Core.List.{[], append-nil, _++_}
 use Prim.Native.Nat.{_≤_, _<_, _-_, _/_}
 use native.Mathlib.Omega.{arith}
 use borrow.Author.Needs.{needs}
 use lib.ListN.{length-set, length, drop}
-use Rattle.lines.specs.Lines.{decimal}
-use Rattle.lines.proofs.Numbers.{decimal-twenty, decimal-least, decimal-longer, decimal-more, decimal-one, digit-before}
-use Rattle.lines.proofs.spell.Statement.{statement}
-use Rattle.lines.proofs.spell.Tie as tie
+use Rattle.text.specs.Text.{decimal}
+use Rattle.text.proofs.Numbers.{decimal-twenty, decimal-least, decimal-longer, decimal-more, decimal-one, digit-before}
+use Rattle.text.proofs.spell.Statement.{statement}
+use Rattle.text.proofs.spell.Tie as tie
 
 abbrev Inv-loop : tie.InvT-loop
 Inv-loop x b₀ i₀ left₀ b i left = (i ≤ 20) × (length b ≡ 20) × (length (decimal left) ≤ i) × (decimal left ++ drop i b ≡ decimal x)
