@@ -2,9 +2,9 @@
 
 use crate::say;
 use crate::tables;
+use record::read;
+use record::write;
 use table::Table;
-use table::read;
-use table::write;
 
 fn reads_to(s: &[u8]) {
     let r = read(s);

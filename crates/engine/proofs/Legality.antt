@@ -1,24 +1,24 @@
 -- What a legal state is known by, and the tests that tell it.
-use mathlib.Core.Path.{_≡_, refl, sym}
-use mathlib.Core.Bool.{Bool, true, false, cond, _&&_}
+use mathlib.Core.Path.{_≡_, refl}
+use mathlib.Core.Bool.{Bool, true, false, cond}
 use Prim.Native.Nat.{ℕ, suc, _+_, _-_, _≤_, _<_}
 use native.Mathlib.Omega.{arith}
 use lib.Dec.{eqb, leb}
-use borrow.Author.Tests.{leb-true, leb-false, eqb-true, eqb-false, le-leb, eq-eqb, ne-eqb}
+use borrow.Author.Tests.{leb-true, leb-false, eqb-true, eqb-false, le-leb, eq-eqb}
 use Rattle.seq.proofs.Tests.{both-true}
-use Rattle.rows.specs.Rows.{rowsKept, latesKept}
-use Rattle.rows.proofs.Counts.{Within}
-use Rattle.rows.proofs.Kept.{lates-within}
+use Rattle.legal.specs.Kept.{rowsKept, latesKept}
+use Rattle.late.proofs.Counts.{Within}
+use Rattle.legal.proofs.Kept.{lates-within}
+use Rattle.legal.specs.Legal.{lastSlot, tableLegal, figuresLegal}
 use Rattle.queue.specs.Queue.{proper}
 use Rattle.engine.specs.declared.State.{State}
-use Rattle.engine.specs.States.{lastSlot}
-use Rattle.engine.specs.Legal.{ran, tableLegal, clockLegal, legal}
+use Rattle.engine.specs.Legal.{ran, legal}
 use Rattle.engine.specs.Slot.{slotRefusal}
 use Rattle.engine.specs.Calls.{requestRefusal}
 
 module _ (s : State) where
   pub record Legal : Type 0 where
-    pub table : tableLegal s ≡ true
+    pub table : tableLegal (s .n) (s .c) (s .t) (s .d) ≡ true
     pub rows : rowsKept (s .n) (s .c) (s .d) (s .k) (s .left) (s .counter) ≡ true
     pub lates : latesKept (s .n) (ran s) (s .late) ≡ true
     pub tallies : s .hard + s .given + s .empty + s .lost ≡ ran s
@@ -27,7 +27,7 @@ module _ (s : State) where
     pub queue : proper (s .count) (s .names) (s .sizes) ≡ true
 
   pub legal-says : legal s ≡ true → Legal
-  unfolding legal
+  unfolding legal figuresLegal
   legal-says e =
       let a = both-true _ _ e in
       let b = both-true _ _ (a .0) in
@@ -46,35 +46,12 @@ module _ (s : State) where
       }
 
   pub legal-is : Legal → legal s ≡ true
-  unfolding legal
+  unfolding legal figuresLegal
   legal-is y =
       rw (y .table, y .rows, y .lates, eq-eqb _ _ (y .tallies), le-leb _ _ (y .began), le-leb _ _ (y .clock), y .queue)
 
   pub late-low : Legal → Within (ran s) (s .late)
   late-low y = lates-within (s .n) (ran s) (s .late) (y .lates)
-
-  -- the tests in the code's order
-  pub legal-tested :
-      {m : ℕ} {a y q b z x o : Bool}
-      → m ≡ ran s
-      → a ≡ tableLegal s && rowsKept (s .n) (s .c) (s .d) (s .k) (s .left) (s .counter) && latesKept (s .n) m (s .late)
-      → y ≡ eqb (s .hard + s .given + s .empty + s .lost) m
-      → q ≡ proper (s .count) (s .names) (s .sizes)
-      → b ≡ a && y
-      → z ≡ clockLegal s
-      → x ≡ b && z
-      → o ≡ x && q
-      → o ≡ legal s
-  unfolding legal
-  legal-tested e-m e-a e-y e-q e-b e-z e-x e-o = rw (← e-m, ← e-a, ← e-y, ← e-q, ← e-b, ← e-z, ← e-x, ← e-o)
-
--- the tallies taken off one by one
-pub tallies-tested : (ran a b c d : ℕ) → a ≤ ran → b ≤ ran - a → c ≤ ran - a - b → eqb (ran - a - b - c) d ≡ eqb (a + b + c + d) ran
-tallies-tested ran a b c d x y z = split (eqb (ran - a - b - c) d) refl
-  where
-    split : (t : Bool) → eqb (ran - a - b - c) d ≡ t → t ≡ eqb (a + b + c + d) ran
-    split true e = let q : ran - a - b - c ≡ d = eqb-true _ _ e in sym (eq-eqb (a + b + c + d) ran (omega arith))
-    split false e = let q : ran - a - b - c ≡ d → ⊥ = eqb-false _ _ e in sym (ne-eqb (a + b + c + d) ran (λ w. q (omega arith)))
 
 -- a refusal that is 0
 unrefused : (b z : Bool) → _≡_ {A = ℕ} (cond b (cond z 10 0) 11) 0 → (b ≡ true) × (z ≡ false)

@@ -1,43 +1,31 @@
 -- The values that the calls of a slot leave are the parts of the settled state and its answer; so for a request.
 use mathlib.Core.Path.{_≡_, ap, _∙_}
 use mathlib.Core.List.{List}
-use mathlib.Core.Bool.{Bool, true, false, cond, _&&_, not}
+use mathlib.Core.Bool.{Bool, cond, _&&_, not}
 use Prim.Native.Nat.{ℕ, _+_, _-_, _≤_, _<_}
 use native.Mathlib.Numerals.{add-one}
 use native.Mathlib.Omega.{arith}
 use lib.ListN.{length}
-use lib.Dec.{ltb}
 use lib.Count.{ones}
 use Rattle.seq.specs.Places.{flag, at}
-use Rattle.rows.specs.declared.Marks.{Marks}
-use Rattle.rows.specs.Rows.{rowsOf, idle, reloaded, dueWord, endWord, released, noneZero, charged, worked, lateWord, dropped, counted, raised, up}
-use Rattle.rows.proofs.Idle.{idle-most}
-use Rattle.rows.proofs.Counts.{up-exact, raised-counted}
+use Rattle.marks.specs.declared.Marks.{Marks}
+use Rattle.rows.specs.Rows.{reloaded, released, charged, worked}
+use Rattle.marks.specs.Words.{dueWord, endWord, lateWord}
+use Rattle.late.specs.Late.{dropped, counted, raised, up}
+use Rattle.late.proofs.Counts.{up-exact, raised-counted}
 use Rattle.queue.specs.Queue.{Request, served, last, lowered, shifted, placed}
 use Rattle.queue.proofs.Laid.{Laid, proper-laid, laid-served, laid-asked}
 use Rattle.engine.specs.declared.State.{State}
 use Rattle.engine.specs.declared.Answer.{Answer}
 use Rattle.engine.specs.declared.Slotted.{Slotted}
-use Rattle.engine.specs.declared.Choice.{Choice}
-use Rattle.engine.specs.declared.Choice.the-variants as choice
-use Rattle.engine.specs.declared.Use.{Use}
+use Rattle.uses.specs.declared.Choice.{Choice}
+use Rattle.uses.specs.declared.Use.{Use}
+use Rattle.uses.specs.Uses.{chosen, isGive, usedFor, rowServed, isHard, isGiven, isEmpty, isLost}
 use Rattle.engine.specs.States.{queue, with-figures}
 use Rattle.engine.specs.Legal.{ran}
-use Rattle.engine.specs.Slot.{chosen, isGive, chosenUse, usedFor, rowServed, isHard, isGiven, isEmpty, isLost, leftReleased, leftUsed, lates, leftJudged, counter₁, left₁, choiceOf, useOf, lateOf, settled, answered}
+use Rattle.engine.specs.Slot.{leftReleased, leftUsed, lates, leftJudged, counter₁, left₁, choiceOf, useOf, lateOf, settled, answered}
 use Rattle.engine.specs.Calls.{joined}
 use Rattle.engine.proofs.Legality.{Legal, late-low}
-
--- the row chosen is one of the sixteen
-pub chosen-place : (n count : ℕ) (left counter : List ℕ) (name : ℕ) → rowServed (chosenUse (chosen n count left counter) name) ≤ 16
-unfolding chosen
-chosen-place n count left counter name =
-    split (ltb 0 count && noneZero n counter) (ltb (idle n left) (rowsOf n)) (ltb 0 count) (idle n left) (let y = idle-most n left in omega arith)
-  where
-    split : (a b d : Bool) (i : ℕ) → i ≤ 16 → rowServed (chosenUse (cond a choice.Give (cond b (choice.Hard i) (cond d choice.Back choice.Idle))) name) ≤ 16
-    split true b d i h = omega arith
-    split false true d i h = omega arith
-    split false false true i h = omega arith
-    split false false false i h = omega arith
 
 module _ (s : State) (g : Legal s) (names-long : length (s .names) ≡ 32) (sizes-long : length (s .sizes) ≡ 32) where
   abbrev Slot-queue : Bool → List Request

@@ -2,7 +2,7 @@
 use Prim.Native.Nat.{ℕ}
 use mathlib.Core.Bool.{cond}
 use lib.Dec.{eqb, leb}
-use Rattle.rows.specs.Rows.{total}
+use Rattle.late.specs.Late.{total}
 use Rattle.queue.specs.Queue.{Request, asked}
 use Rattle.engine.specs.declared.State.{State}
 use Rattle.engine.specs.declared.Requested.{Requested}

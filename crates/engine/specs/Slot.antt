@@ -1,75 +1,24 @@
 -- One slot, in document 01's order: the opening (reload, release, choice) and, once it is known whether the slot was lost, the rest.
-use Prim.Native.Nat.{ℕ, suc, _+_, _-_}
+use Prim.Native.Nat.{ℕ, suc, _+_}
 use mathlib.Core.List.{List}
-use mathlib.Core.Bool.{Bool, true, false, cond, _&&_, not}
-use lib.Dec.{eqb, ltb}
+use mathlib.Core.Bool.{Bool, cond, _&&_, not}
+use lib.Dec.{eqb}
 use lib.Count.{ones}
 use Rattle.seq.specs.Places.{flag, at}
-use Rattle.rows.specs.Rows.{rowsOf, idle, reloaded, dueWord, endWord, released, noneZero, charged, worked, lateWord, dropped, counted}
+use Rattle.rows.specs.Rows.{reloaded, released, charged, worked}
+use Rattle.marks.specs.Words.{dueWord, endWord, lateWord}
+use Rattle.late.specs.Late.{dropped, counted}
+use Rattle.uses.specs.declared.Choice.{Choice}
+use Rattle.uses.specs.declared.Use.{Use}
+use Rattle.uses.specs.declared.Use.the-variants as use-for
+use Rattle.uses.specs.Uses.{chosen, isGive, usedFor, rowServed, isHard, isGiven, isEmpty, isLost}
+use Rattle.legal.specs.Legal.{lastSlot}
 use Rattle.queue.specs.Queue.{Request, served}
 use Rattle.engine.specs.declared.State.{State}
 use Rattle.engine.specs.declared.Answer.{Answer}
 use Rattle.engine.specs.declared.Slotted.{Slotted}
-use Rattle.engine.specs.declared.Choice.{Choice}
-use Rattle.engine.specs.declared.Choice.the-variants as choice
-use Rattle.engine.specs.declared.Use.{Use}
-use Rattle.engine.specs.declared.Use.the-variants as use-for
-use Rattle.engine.specs.States.{Tally, lastSlot, queue, tally, with-figures}
+use Rattle.engine.specs.States.{Tally, queue, tally, with-figures}
 use Rattle.engine.specs.Legal.{ran, legal}
-
--- The choice, first that applies: with so many requests waiting, this work left and these counters
-unfoldable pub chosen : ℕ → ℕ → List ℕ → List ℕ → Choice
-chosen n count left counter =
-    cond (ltb 0 count && noneZero n counter) choice.Give
-    (cond (ltb (idle n left) (rowsOf n)) (choice.Hard (idle n left))
-    (cond (ltb 0 count) choice.Back choice.Idle))
-
-abbrev pub isGive : Choice → Bool
-isGive choice.Give = true
-isGive (choice.Hard i) = false
-isGive choice.Back = false
-isGive choice.Idle = false
-
--- What the slot is used for, where the head request has this name
-abbrev pub chosenUse : Choice → ℕ → Use
-chosenUse choice.Give name = use-for.Given name
-chosenUse (choice.Hard i) name = use-for.Hard (suc i)
-chosenUse choice.Back name = use-for.Given name
-chosenUse choice.Idle name = use-for.Empty
-
-abbrev pub usedFor : Bool → Choice → ℕ → Use
-usedFor lost x name = cond lost use-for.Lost (chosenUse x name)
-
--- the place of the row that gets it; 16 for none
-abbrev pub rowServed : Use → ℕ
-rowServed (use-for.Hard row) = row - 1
-rowServed (use-for.Given name) = 16
-rowServed use-for.Empty = 16
-rowServed use-for.Lost = 16
-
-abbrev pub isHard : Use → Bool
-isHard (use-for.Hard row) = true
-isHard (use-for.Given name) = false
-isHard use-for.Empty = false
-isHard use-for.Lost = false
-
-abbrev pub isGiven : Use → Bool
-isGiven (use-for.Hard row) = false
-isGiven (use-for.Given name) = true
-isGiven use-for.Empty = false
-isGiven use-for.Lost = false
-
-abbrev pub isEmpty : Use → Bool
-isEmpty (use-for.Hard row) = false
-isEmpty (use-for.Given name) = false
-isEmpty use-for.Empty = true
-isEmpty use-for.Lost = false
-
-abbrev pub isLost : Use → Bool
-isLost (use-for.Hard row) = false
-isLost (use-for.Given name) = false
-isLost use-for.Empty = false
-isLost use-for.Lost = true
 
 abbrev pub tallied : Use → Tally → Tally
 tallied u y =

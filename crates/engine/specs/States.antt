@@ -11,10 +11,6 @@ pub record Tally : Type 0 where
   pub empty : ℕ
   pub lost : ℕ
 
--- the last slot is 2 to the 48th
-abbrev pub lastSlot : ℕ
-lastSlot = 281474976710656
-
 module _ (s : State) where
   -- the requests that wait
   abbrev pub queue : List Request

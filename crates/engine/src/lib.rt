@@ -1,21 +1,15 @@
 // The engine: a scheduler state, and what a start, a request, a slot and a late total do to it.
 
 ghost use mathlib.Core.Path.{_≡_};
-ghost use mathlib.Core.Bool.{true, false, cond, _&&_, not};
-ghost use Prim.Native.Nat.{suc, _+_, _-_, _≤_};
-ghost use lib.Dec.{eqb, leb};
 ghost use lib.Count.{ones};
-ghost use Rattle.table.specs.Verdicts.{taken};
-ghost use Rattle.table.specs.Form.{formVerdict};
-ghost use Rattle.rows.specs.Rows.{rowsKept, latesKept, up};
-ghost use Rattle.engine.specs.declared.Use.the-variants.{Empty};
-ghost use Rattle.engine.specs.States.{lastSlot};
-ghost use Rattle.engine.specs.Slot.{chosen, isGive, chosenUse, usedFor, rowServed, isHard, isGiven, isEmpty, isLost, slotOf};
+ghost use Rattle.late.specs.Late.{up};
+ghost use Rattle.uses.specs.declared.Use.the-variants.{Empty};
+ghost use Rattle.engine.specs.Slot.{slotOf};
 ghost use Rattle.engine.specs.Calls.{requestOf, lateTotalOf};
 ghost use Rattle.engine.specs.Start.{blank, noState, startOf};
-use seq::both;
 use table::Table;
 use table::Verdict;
+use uses::Use;
 
 // Of each row its table figures, its allowance, the work left, its counter and its late count; the queue in 32 places; four tallies.
 // Rows past n and places past count are zero. Numbers only, so that C and Rust can lend it.
@@ -37,22 +31,6 @@ pub struct State {
     pub given: u64,
     pub empty: u64,
     pub lost: u64,
-}
-
-// Who should have a slot: the head request, the first row with work left, the head request in the background, or nobody.
-pub enum Choice {
-    Give,
-    Hard(usize),
-    Back,
-    Idle,
-}
-
-// What a slot was used for: a row by its number from 1 on, a request by its name.
-pub enum Use {
-    Hard(usize),
-    Given(u16),
-    Empty,
-    Lost,
 }
 
 // Number 0 where the slot was run; bit 0 of the late word for row 1.
@@ -83,185 +61,10 @@ pub struct Summed {
     pub total: u64,
 }
 
-// One less, and 0 stays.
-fn before(next: u64) -> u64
-    ensures { λ r. ⌜ r ≡ next - 1 ⌝ }
-{
-    if next == 0 { 0 } else { next - 1 }
-}
-
-fn is_taken(v: Verdict) -> bool
-    ensures { λ r. ⌜ r ≡ taken v true false ⌝ }
-{
-    match v {
-        Verdict::Taken => true,
-        Verdict::Refused(_, _) => false
-    }
-}
-
-// The table and the figures of its rows.
-fn rows_legal<'a>(
-    n: usize,
-    ran: u64,
-    c: &'a [u16; 16],
-    t: &'a [u16; 16],
-    d: &'a [u16; 16],
-    k: &'a [u16; 16],
-    left: &'a [u16; 16],
-    counter: &'a [u16; 16],
-    late: &'a [u64; 16],
-) -> bool
-    ensures { λ r. ⌜ r ≡ (taken (formVerdict n (now (c .entry)) (now (t .entry)) (now (d .entry))) true false
-        && rowsKept n (now (c .entry)) (now (d .entry)) (now (k .entry)) (now (left .entry)) (now (counter .entry))
-        && latesKept n ran (now (late .entry))) ⌝ }
-{
-    let f = is_taken(table::form(n, c, t, d));
-    let a = rows::rows_kept(n, c, d, k, left, counter);
-    let b = rows::lates_kept(n, ran, late);
-    both(both(f, a), b)
-}
-
-// Taken off one by one, so that no sum can wrap.
-fn tallies_legal(ran: u64, hard: u64, given: u64, empty: u64, lost: u64) -> bool
-    ensures { λ r. ⌜ r ≡ eqb (hard + given + empty + lost) ran ⌝ }
-{
-    if ran < hard {
-        return false;
-    }
-    let a = ran - hard;
-    if a < given {
-        return false;
-    }
-    let b = a - given;
-    if b < empty {
-        return false;
-    }
-    b - empty == lost
-}
-
-fn clock_legal(next: u64) -> bool
-    ensures { λ r. ⌜ r ≡ (leb 1 next && leb next (suc lastSlot)) ⌝ }
-{
-    both(1 <= next, next <= 281474976710657)
-}
-
-// The head request if no counter is 0, else the first row with work left, else the head in the background.
-fn choose<'a>(left: &'a [u16; 16], counter: &'a [u16; 16], count: usize, n: usize) -> Choice
-    ensures { λ r. ⌜ r ≡ chosen n count (now (left .entry)) (now (counter .entry)) ⌝ }
-{
-    let waits = 0 < count;
-    let give = both(waits, rows::none_zero(counter, n));
-    if give {
-        return Choice::Give;
-    }
-    let i = rows::idle_rows(left, n);
-    let m = rows::rows(n);
-    if i < m {
-        return Choice::Hard(i);
-    }
-    if waits { Choice::Back } else { Choice::Idle }
-}
-
-fn is_give(choice: Choice) -> bool
-    ensures { λ r. ⌜ r ≡ isGive choice ⌝ }
-{
-    match choice {
-        Choice::Give => true,
-        Choice::Hard(_) => false,
-        Choice::Back => false,
-        Choice::Idle => false
-    }
-}
-
-// A slot in the background and a lost one leave the counters.
-fn charges(choice: Choice, lost: bool) -> bool
-    ensures { λ r. ⌜ r ≡ (isGive choice && not lost) ⌝ }
-{
-    both(is_give(choice), !lost)
-}
-
-fn chosen_use(choice: Choice, name: u16) -> Use
-    requires { ⌜ rowServed (chosenUse choice name) ≤ 16 ⌝ }
-    ensures { λ r. ⌜ r ≡ chosenUse choice name ⌝ }
-{
-    match choice {
-        Choice::Give => Use::Given(name),
-        Choice::Hard(i) => Use::Hard(i + 1),
-        Choice::Back => Use::Given(name),
-        Choice::Idle => Use::Empty,
-    }
-}
-
-fn used_for(lost: bool, choice: Choice, name: u16) -> Use
-    requires { ⌜ rowServed (chosenUse choice name) ≤ 16 ⌝ }
-    ensures { λ r. ⌜ r ≡ usedFor lost choice name ⌝ }
-{
-    if lost {
-        Use::Lost
-    } else {
-        chosen_use(choice, name)
-    }
-}
-
-fn row_served(used: Use) -> usize
-    ensures { λ r. ⌜ r ≡ rowServed used ⌝ }
-{
-    match used {
-        Use::Hard(row) => if row == 0 { 0 } else { row - 1 },
-        Use::Given(_) => 16,
-        Use::Empty => 16,
-        Use::Lost => 16,
-    }
-}
-
-fn is_hard(used: Use) -> bool
-    ensures { λ r. ⌜ r ≡ isHard used ⌝ }
-{
-    match used {
-        Use::Hard(_) => true,
-        Use::Given(_) => false,
-        Use::Empty => false,
-        Use::Lost => false
-    }
-}
-
-fn is_given(used: Use) -> bool
-    ensures { λ r. ⌜ r ≡ isGiven used ⌝ }
-{
-    match used {
-        Use::Hard(_) => false,
-        Use::Given(_) => true,
-        Use::Empty => false,
-        Use::Lost => false
-    }
-}
-
-fn is_empty(used: Use) -> bool
-    ensures { λ r. ⌜ r ≡ isEmpty used ⌝ }
-{
-    match used {
-        Use::Hard(_) => false,
-        Use::Given(_) => false,
-        Use::Empty => true,
-        Use::Lost => false
-    }
-}
-
-fn is_lost(used: Use) -> bool
-    ensures { λ r. ⌜ r ≡ isLost used ⌝ }
-{
-    match used {
-        Use::Hard(_) => false,
-        Use::Given(_) => false,
-        Use::Empty => false,
-        Use::Lost => true
-    }
-}
-
 fn answered(used: Use, w: u16) -> Answer
     ensures { λ r. ⌜ r ≡ record { number = 0; used = used; word = w; late = ones w } ⌝ }
 {
-    let late = rows::late_rows(w);
+    let late = marks::late_rows(w);
     Answer {
         number: 0,
         used: used,
@@ -284,30 +87,7 @@ fn refused(u: u8) -> Answer
 fn tally(count: &mut u64, on: bool)
     ensures { λ _. ⌜ now (count .exit) ≡ up on (now (count .entry)) ⌝ }
 {
-    *count = rows::count_up(*count, on);
-}
-
-// 11, 10 or 0.
-fn slot_refusal(ok: bool, next: u64) -> u8
-    ensures { λ r. ⌜ r ≡ cond ok (cond (eqb next (suc lastSlot)) 10 0) 11 ⌝ }
-{
-    if !ok {
-        return 11;
-    }
-    if next == 281474976710657 { 10 } else { 0 }
-}
-
-// 11, 8, 9 or 0.
-fn request_refusal(ok: bool, size: u16, count: usize) -> u8
-    ensures { λ r. ⌜ r ≡ cond ok (cond (eqb size 0) 8 (cond (leb 32 count) 9 0)) 11 ⌝ }
-{
-    if !ok {
-        return 11;
-    }
-    if size == 0 {
-        return 8;
-    }
-    if 32 <= count { 9 } else { 0 }
+    *count = late::count_up(*count, on);
 }
 
 fn blank(next: u64, x: Table, k: [u16; 16]) -> State
@@ -374,40 +154,54 @@ pub fn slot(s: State, lost: bool) -> Slotted
     let mut r = s;
     let n = r.n;
     let next = r.next;
-    let ran = before(next);
-    let a = rows_legal(n, ran, &r.c, &r.t, &r.d, &r.k, &r.left, &r.counter, &r.late);
-    let b = tallies_legal(ran, r.hard, r.given, r.empty, r.lost);
-    let q = queue::is_proper(r.count, &r.names, &r.sizes);
-    let ok = both(both(both(a, b), clock_legal(next)), q);
-    let u = slot_refusal(ok, next);
+    let ok = legal::is_legal(
+        n,
+        next,
+        &r.c,
+        &r.t,
+        &r.d,
+        &r.k,
+        &r.left,
+        &r.counter,
+        &r.late,
+        r.count,
+        &r.names,
+        &r.sizes,
+        r.hard,
+        r.given,
+        r.empty,
+        r.lost,
+    );
+    let u = legal::slot_refusal(ok, next);
     let mut answer = refused(u);
     if u == 0 {
+        let ran = next - 1;
         let k = r.k;
         let left = r.left;
         rows::reload(&mut r.counter, &left, &k, n);
-        let marks = rows::mark(&r.t, &r.d, n, ran);
+        let marks = marks::mark(&r.t, &r.d, n, ran);
         let c = r.c;
         rows::release(&mut r.left, &c, marks.due);
-        let choice = choose(&r.left, &r.counter, r.count, n);
+        let choice = uses::choose(&r.left, &r.counter, r.count, n);
         let name = r.names[0];
-        let used = used_for(lost, choice, name);
-        let on = is_given(used);
+        let used = uses::used_for(lost, choice, name);
+        let on = uses::is_given(used);
         let size = r.sizes[0];
         let done = queue::is_last(on, size);
-        rows::charge(&mut r.counter, charges(choice, lost));
-        rows::work(&mut r.left, row_served(used));
+        rows::charge(&mut r.counter, uses::charges(choice, lost));
+        rows::work(&mut r.left, uses::row_served(used));
         queue::lower(&mut r.sizes, on);
         queue::shift(&mut r.sizes, done);
         queue::shift(&mut r.names, done);
         let count = queue::fewer(r.count, done);
         r.count = count;
-        let w = rows::late_word(&r.left, marks.end);
-        rows::drop_late(&mut r.left, w);
-        rows::count_late(&mut r.late, w);
-        tally(&mut r.hard, is_hard(used));
+        let w = marks::late_word(&r.left, marks.end);
+        late::drop_late(&mut r.left, w);
+        late::count_late(&mut r.late, w);
+        tally(&mut r.hard, uses::is_hard(used));
         tally(&mut r.given, on);
-        tally(&mut r.empty, is_empty(used));
-        tally(&mut r.lost, is_lost(used));
+        tally(&mut r.empty, uses::is_empty(used));
+        tally(&mut r.lost, uses::is_lost(used));
         r.next = next + 1;
         answer = answered(used, w);
     }
@@ -423,13 +217,26 @@ pub fn request(s: State, name: u16, size: u16) -> Requested
     let mut r = s;
     let n = r.n;
     let next = r.next;
-    let ran = before(next);
-    let a = rows_legal(n, ran, &r.c, &r.t, &r.d, &r.k, &r.left, &r.counter, &r.late);
-    let b = tallies_legal(ran, r.hard, r.given, r.empty, r.lost);
-    let q = queue::is_proper(r.count, &r.names, &r.sizes);
-    let ok = both(both(both(a, b), clock_legal(next)), q);
+    let ok = legal::is_legal(
+        n,
+        next,
+        &r.c,
+        &r.t,
+        &r.d,
+        &r.k,
+        &r.left,
+        &r.counter,
+        &r.late,
+        r.count,
+        &r.names,
+        &r.sizes,
+        r.hard,
+        r.given,
+        r.empty,
+        r.lost,
+    );
     let count = r.count;
-    let u = request_refusal(ok, size, count);
+    let u = legal::request_refusal(ok, size, count);
     if u == 0 {
         queue::put(&mut r.names, count, name);
         queue::put(&mut r.sizes, count, size);
@@ -446,11 +253,24 @@ pub fn late_total(s: State) -> Summed
 {
     let n = s.n;
     let next = s.next;
-    let ran = before(next);
-    let a = rows_legal(n, ran, &s.c, &s.t, &s.d, &s.k, &s.left, &s.counter, &s.late);
-    let b = tallies_legal(ran, s.hard, s.given, s.empty, s.lost);
-    let q = queue::is_proper(s.count, &s.names, &s.sizes);
-    let ok = both(both(both(a, b), clock_legal(next)), q);
+    let ok = legal::is_legal(
+        n,
+        next,
+        &s.c,
+        &s.t,
+        &s.d,
+        &s.k,
+        &s.left,
+        &s.counter,
+        &s.late,
+        s.count,
+        &s.names,
+        &s.sizes,
+        s.hard,
+        s.given,
+        s.empty,
+        s.lost,
+    );
     if !ok {
         return Summed {
             number: 11,
@@ -459,6 +279,6 @@ pub fn late_total(s: State) -> Summed
     }
     Summed {
         number: 0,
-        total: rows::late_total(&s.late),
+        total: late::late_total(&s.late),
     }
 }

@@ -5,8 +5,8 @@ use Prim.Native.Nat.{ℕ, _-_}
 use lib.ListN.{replicate}
 use Rattle.engine.specs.declared.State.{State}
 use Rattle.engine.specs.declared.Summed.{Summed}
-use Rattle.engine.specs.declared.Use.{Use}
-use Rattle.engine.specs.declared.Use.the-variants.{Hard, Given, Lost}
+use Rattle.uses.specs.declared.Use.{Use}
+use Rattle.uses.specs.declared.Use.the-variants.{Hard, Given, Lost}
 use Rattle.engine.specs.States.{tally}
 use Rattle.engine.specs.Calls.{lateTotalOf}
 use Rattle.allowance.specs.Cases.{tableOf}

@@ -5,7 +5,7 @@ use lib.ListN.{length}
 use denote.Ref.{now}
 use Rattle.seq.specs.Outcomes.{OneOutcome}
 use Rattle.seq.proofs.Outcomes.{one-outcome}
-use Rattle.table.specs.Record.{writtenOf, bufferOf}
+use Rattle.record.specs.Record.{writtenOf, bufferOf}
 use Rattle.lent.specs.declared.Wrote.{Wrote}
 use Rattle.lent.specs.Face.{wroteFace}
 use Rattle.lent.proofs.fjurke_read.Reads as read

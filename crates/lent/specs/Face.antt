@@ -3,16 +3,16 @@ use Prim.Native.Nat.{ℕ}
 use mathlib.Core.Bool.{Bool, not}
 use lib.Dec.{eqb}
 use Rattle.table.specs.Verdicts.{numberOf, rowNamed}
-use Rattle.table.specs.declared.Reading.{Reading}
-use Rattle.table.specs.declared.Written.{Written}
+use Rattle.record.specs.declared.Reading.{Reading}
+use Rattle.record.specs.declared.Written.{Written}
 use Rattle.allowance.specs.declared.Tested.{Tested}
 use Rattle.engine.specs.declared.Started.{Started}
 use Rattle.engine.specs.declared.Requested.{Requested}
 use Rattle.engine.specs.declared.Summed.{Summed}
 use Rattle.engine.specs.declared.State.{State}
 use Rattle.engine.specs.declared.Answer.{Answer}
-use Rattle.engine.specs.declared.Use.{Use}
-use Rattle.engine.specs.declared.Use.the-variants.{Hard, Given, Empty, Lost}
+use Rattle.uses.specs.declared.Use.{Use}
+use Rattle.uses.specs.declared.Use.the-variants.{Hard, Given, Empty, Lost}
 use Rattle.engine.specs.Slot.{slotOf}
 use Rattle.engine.specs.Calls.{requestOf}
 use Rattle.lent.specs.declared.Said.{Said}

@@ -2,7 +2,7 @@
 
 ghost use mathlib.Core.Path.{_≡_};
 ghost use lib.ListN.{length};
-ghost use Rattle.table.specs.Record.{readOf, writtenOf, bufferOf};
+ghost use Rattle.record.specs.Record.{readOf, writtenOf, bufferOf};
 ghost use Rattle.allowance.specs.Test.{testOf};
 ghost use Rattle.engine.specs.Slot.{slotOf};
 ghost use Rattle.engine.specs.Calls.{requestOf, lateTotalOf};
@@ -10,8 +10,8 @@ ghost use Rattle.engine.specs.Start.{startOf};
 ghost use Rattle.lent.specs.Face.{useNumber, useWho, saidOf, isOn, slotSaid, toldFace, requestTold, readFace, wroteFace, triedFace, beganFace, sumFace};
 use engine::Answer;
 use engine::State;
-use engine::Use;
 use table::Table;
+use uses::Use;
 
 // number: 0, or the refusal. used: 0 empty, 1 hard, 2 given, 3 lost. word: bit 0 for row 1 late. late: how many rows are late.
 // who: the row that got the slot, from 1 on, or the name of the request.
@@ -182,7 +182,7 @@ pub extern "C" fn fjurke_request(s: &mut State, ask: Ask) -> Told
 pub extern "C" fn fjurke_read(s: &[u8]) -> Read
     ensures { λ r. ⌜ r ≡ readFace (readOf (now (s .entry))) ⌝ }
 {
-    let r = table::read(s);
+    let r = record::read(s);
     let v = r.verdict;
     let number = table::number_of(v);
     let row = table::row_named(v);
@@ -198,7 +198,7 @@ pub extern "C" fn fjurke_read(s: &[u8]) -> Read
 pub extern "C" fn fjurke_write(x: Table, b: &mut [u8]) -> Wrote
     ensures { λ r. ⌜ (r ≡ wroteFace (writtenOf x (length (now (b .entry))))) × (now (b .exit) ≡ bufferOf x (now (b .entry))) ⌝ }
 {
-    let r = table::write(x, &mut *b);
+    let r = record::write(x, &mut *b);
     let v = r.verdict;
     let number = table::number_of(v);
     let row = table::row_named(v);

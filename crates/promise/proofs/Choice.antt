@@ -15,11 +15,11 @@ use Rattle.law.proofs.Sums.{sum-add, sum-eq, sum-zero, term-le}
 use Rattle.rows.specs.Rows.{rowsOf, idle, noneZero}
 use Rattle.rows.proofs.Idle.{idle-before, idle-stop}
 use Rattle.rows.proofs.Points.{none-zero-at}
-use Rattle.engine.specs.declared.Choice.the-variants.{Give, Back, Idle}
-use Rattle.engine.specs.declared.Choice.the-variants as choice
-use Rattle.engine.specs.declared.Use.{Use}
-use Rattle.engine.specs.declared.Use.the-variants.{Hard, Given, Empty, Lost}
-use Rattle.engine.specs.Slot.{chosen, isGive, usedFor, rowServed}
+use Rattle.uses.specs.declared.Choice.the-variants.{Give, Back, Idle}
+use Rattle.uses.specs.declared.Choice.the-variants as choice
+use Rattle.uses.specs.declared.Use.{Use}
+use Rattle.uses.specs.declared.Use.the-variants.{Hard, Given, Empty, Lost}
+use Rattle.uses.specs.Uses.{chosen, isGive, usedFor, rowServed}
 use Rattle.promise.specs.History.{isRow}
 
 -- the first row with work left has some
@@ -44,8 +44,8 @@ pub data View (n count : ℕ) (left counter : List ℕ) (lost : Bool) : Use → 
 
 module _ (n count : ℕ) (left counter : List ℕ) where
   free : (name : ℕ) (a b c : Bool) → ltb 0 count && noneZero n counter ≡ a → ltb (idle n left) (rowsOf n) ≡ b → ltb 0 count ≡ c
-      → View n count left counter false (usedFor false (cond a Give (cond b (choice.Hard (idle n left)) (cond c Back Idle))) name)
-      (isGive (cond a Give (cond b (choice.Hard (idle n left)) (cond c Back Idle))) && not false)
+      → View n count left counter false (usedFor false (cond a Give (cond b (choice.Hard (suc (idle n left))) (cond c Back Idle))) name)
+      (isGive (cond a Give (cond b (choice.Hard (suc (idle n left))) (cond c Back Idle))) && not false)
   free name true b c e f g = let y = both-true _ _ e in is-given (ltb-true _ _ (y .0)) (y .1)
   free name false true c e f g = is-hard refl (ltb-true _ _ f)
   free name false false true e f g = is-back (ltb-true _ _ g) (ltb-false _ _ f)

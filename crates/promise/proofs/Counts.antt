@@ -11,8 +11,9 @@ use Rattle.seq.specs.Places.{at, tab}
 use Rattle.seq.specs.Words.{word, bit}
 use Rattle.seq.proofs.Words.{ones-word, tab-bit, tab-word-more}
 use Rattle.law.specs.Sums.{sum}
-use Rattle.rows.specs.Rows.{lateWord, total}
-use Rattle.rows.proofs.Points.{late-past}
+use Rattle.marks.specs.Words.{lateWord}
+use Rattle.late.specs.Late.{total}
+use Rattle.marks.proofs.Points.{late-past}
 use Rattle.table.specs.declared.Table.{Table}
 use Rattle.table.specs.declared.Verdict.the-variants.{Taken}
 use Rattle.table.specs.WellFormed.{WellFormed}
@@ -23,7 +24,8 @@ use Rattle.engine.specs.declared.State.{State}
 use Rattle.engine.specs.declared.Answer.{Answer}
 use Rattle.engine.specs.States.{with-figures}
 use Rattle.engine.specs.Legal.{legal}
-use Rattle.engine.specs.Slot.{isHard, isGiven, isEmpty, isLost, rowServed, leftUsed, lates, settled, answered}
+use Rattle.uses.specs.Uses.{isHard, isGiven, isEmpty, isLost, rowServed}
+use Rattle.engine.specs.Slot.{leftUsed, lates, settled, answered}
 use Rattle.engine.specs.Calls.{lateTotalOf}
 use Rattle.promise.specs.Runs.{Call, runOf, history, moment}
 use Rattle.promise.specs.History.{answerAt}

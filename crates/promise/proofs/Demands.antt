@@ -13,7 +13,7 @@ use Rattle.engine.specs.Start.{begun, startOf}
 use Rattle.engine.specs.declared.State.{State}
 use Rattle.engine.specs.declared.Slotted.{Slotted}
 use Rattle.engine.specs.declared.Requested.{Requested}
-use Rattle.engine.specs.States.{lastSlot}
+use Rattle.legal.specs.Legal.{lastSlot}
 use Rattle.engine.specs.Legal.{legal}
 use Rattle.engine.specs.Slot.{slotRefusal, slotOf, answered}
 use Rattle.engine.specs.Calls.{requestRefusal, requestOf}

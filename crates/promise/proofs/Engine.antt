@@ -8,15 +8,17 @@ use lib.ListN.{length}
 use Rattle.seq.specs.Places.{flag, at}
 use Rattle.seq.proofs.Places.{at-zeros, over-length}
 use Rattle.law.specs.Sums.{sum}
-use Rattle.rows.specs.Rows.{reloaded, charged, counted}
+use Rattle.rows.specs.Rows.{reloaded, charged}
+use Rattle.late.specs.Late.{counted}
 use Rattle.table.specs.declared.Table.{Table}
 use Rattle.engine.specs.declared.State.{State}
 use Rattle.engine.specs.declared.Answer.{Answer}
-use Rattle.engine.specs.declared.Use.{Use}
+use Rattle.uses.specs.declared.Use.{Use}
 use Rattle.engine.specs.States.{with-figures}
 use Rattle.engine.specs.Start.{blank, begun}
 use Rattle.engine.specs.Legal.{ran}
-use Rattle.engine.specs.Slot.{isGive, rowServed, leftReleased, lates, leftJudged, counter₁, left₁, choiceOf, useOf, lateOf, settled, answered}
+use Rattle.uses.specs.Uses.{isGive, rowServed}
+use Rattle.engine.specs.Slot.{leftReleased, lates, leftJudged, counter₁, left₁, choiceOf, useOf, lateOf, settled, answered}
 use Rattle.promise.specs.Runs.{Call, runOf, history, moment}
 use Rattle.promise.specs.History.{answerAt, count}
 use Rattle.promise.proofs.Trail.{bare, first-moment, last-moment, trail}

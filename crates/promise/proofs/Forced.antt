@@ -18,13 +18,16 @@ use Rattle.law.specs.Level.{backlog}
 use Rattle.law.specs.Forced.{Forced, LateAt, ForcedRun}
 use Rattle.law.proofs.Sums.{sum-zero}
 use Rattle.law.proofs.Laws.{tight}
-use Rattle.rows.specs.Rows.{rowsOf, noneZero, ends, counted}
+use Rattle.rows.specs.Rows.{rowsOf, noneZero}
+use Rattle.marks.specs.Words.{ends}
+use Rattle.late.specs.Late.{counted}
 use Rattle.rows.proofs.Idle.{idle-before}
 use Rattle.table.specs.declared.Table.{Table}
 use Rattle.table.specs.WellFormed.{WellFormed}
 use Rattle.engine.specs.declared.Answer.{Answer}
-use Rattle.engine.specs.declared.Use.{Use}
-use Rattle.engine.specs.Slot.{chosen, isGive, rowServed, leftReleased}
+use Rattle.uses.specs.declared.Use.{Use}
+use Rattle.uses.specs.Uses.{chosen, isGive, rowServed}
+use Rattle.engine.specs.Slot.{leftReleased}
 use Rattle.promise.specs.History.{answerAt, isRow, noAnswer}
 use Rattle.promise.specs.Forced.{forcedUse, forcedLeft, forcedWord, forcedAnswer, forcedHistory}
 use Rattle.promise.specs.Demands.{rowEndsLate}

@@ -15,13 +15,18 @@ use Rattle.law.specs.Judge.{RowRun, Link}
 use Rattle.law.proofs.Age.{released-apart}
 use Rattle.law.proofs.Judge.{judged-periodic, link-run, link-flag}
 use Rattle.law.proofs.Laws.{late-counts}
-use Rattle.rows.specs.Rows.{rowsOf, ends, worked, dropped, counted}
+use Rattle.rows.specs.Rows.{rowsOf, worked}
+use Rattle.marks.specs.Words.{ends}
+use Rattle.late.specs.Late.{dropped, counted}
 use Rattle.rows.specs.Rows as rows
-use Rattle.rows.proofs.Points.{released-at, worked-at, dropped-at, counted-at, late-at}
+use Rattle.marks.proofs.Points.{released-at, late-at}
+use Rattle.rows.proofs.Points.{worked-at}
+use Rattle.late.proofs.Points.{dropped-at, counted-at}
 use Rattle.table.specs.WellFormed.{WellFormed}
 use Rattle.engine.specs.declared.Answer.{Answer}
-use Rattle.engine.specs.declared.Use.{Use}
-use Rattle.engine.specs.Slot.{rowServed, leftReleased, leftUsed, lates, leftJudged}
+use Rattle.uses.specs.declared.Use.{Use}
+use Rattle.uses.specs.Uses.{rowServed}
+use Rattle.engine.specs.Slot.{leftReleased, leftUsed, lates, leftJudged}
 use Rattle.promise.specs.History.{answerAt, isRow, hit, lateCount, endsLate}
 
 -- one slot, before which m were run

@@ -19,18 +19,22 @@ use Rattle.table.specs.Verdicts.{taken}
 use Rattle.table.proofs.WellFormed.{taken-iff}
 use Rattle.allowance.specs.Test.{testOf}
 use Rattle.allowance.proofs.Tests.{taken-well, verdict-form, each-small, each-past}
-use Rattle.rows.specs.Rows.{dueWord, charged, rowsKept, latesKept}
-use Rattle.rows.proofs.Points.{late-past}
-use Rattle.rows.proofs.Kept.{kept-bounds, bounds-kept, reloaded-kept, charged-kept, released-kept, worked-kept, dropped-kept, lates-say, lates-kept}
+use Rattle.marks.specs.Words.{dueWord}
+use Rattle.rows.specs.Rows.{charged}
+use Rattle.legal.specs.Kept.{rowsKept, latesKept}
+use Rattle.marks.proofs.Points.{late-past}
+use Rattle.legal.proofs.Kept.{kept-bounds, bounds-kept, reloaded-kept, charged-kept, released-kept, worked-kept, dropped-kept, lates-say, lates-kept}
 use Rattle.queue.specs.Queue.{Request, noRequest, asked, served, waiting, namesOf, sizesOf, placeProper, proper}
 use Rattle.queue.proofs.Laid.{Sized, Laid, laid-proper, laid-served, laid-asked, laid-none}
 use Rattle.engine.specs.declared.State.{State}
-use Rattle.engine.specs.declared.Use.{Use}
-use Rattle.engine.specs.declared.Use.the-variants.{Hard, Given, Empty, Lost}
-use Rattle.engine.specs.States.{lastSlot, queue, with-figures}
+use Rattle.uses.specs.declared.Use.{Use}
+use Rattle.uses.specs.declared.Use.the-variants.{Hard, Given, Empty, Lost}
+use Rattle.legal.specs.Legal.{lastSlot}
+use Rattle.engine.specs.States.{queue, with-figures}
 use Rattle.engine.specs.Start.{blank, begun}
 use Rattle.engine.specs.Legal.{ran, legal}
-use Rattle.engine.specs.Slot.{isGive, rowServed, isHard, isGiven, isEmpty, isLost, leftReleased, leftUsed, lates, leftJudged, counter₁, choiceOf, useOf, lateOf, settled, slotRefusal, slotOf}
+use Rattle.uses.specs.Uses.{isGive, rowServed, isHard, isGiven, isEmpty, isLost}
+use Rattle.engine.specs.Slot.{leftReleased, leftUsed, lates, leftJudged, counter₁, choiceOf, useOf, lateOf, settled, slotRefusal, slotOf}
 use Rattle.engine.specs.Calls.{requestRefusal, joined, requestOf}
 use Rattle.engine.proofs.Legality.{Legal, legal-says, legal-is, slot-legal, request-legal}
 use Rattle.promise.specs.Runs.{Call, slot, request, step, runOf}

@@ -7,4 +7,3 @@ pub mod Counts
 pub mod Safe
 pub mod Forced
 pub mod Demands
-pub mod Cases

@@ -28,9 +28,10 @@ use Rattle.allowance.proofs.Tests.{taken-well, verdict-form, each-holds}
 use Rattle.engine.specs.Start.{begun}
 use Rattle.engine.specs.declared.State.{State}
 use Rattle.engine.specs.declared.Answer.{Answer}
-use Rattle.engine.specs.declared.Use.{Use}
+use Rattle.uses.specs.declared.Use.{Use}
 use Rattle.engine.specs.States.{with-figures}
-use Rattle.engine.specs.Slot.{isGive, isLost, counter₁, left₁, choiceOf, useOf, settled}
+use Rattle.uses.specs.Uses.{isGive, isLost}
+use Rattle.engine.specs.Slot.{counter₁, left₁, choiceOf, useOf, settled}
 use Rattle.promise.specs.Runs.{Call, history, moment}
 use Rattle.promise.specs.History.{answerAt, hit, got, count, NoneLost}
 use Rattle.promise.specs.Demands.{lateOfRow, rowEndsLate, InTime, Spared}

@@ -13,7 +13,7 @@ use Rattle.engine.specs.declared.State.{State}
 use Rattle.engine.specs.declared.Answer.{Answer}
 use Rattle.engine.specs.declared.Slotted.{Slotted}
 use Rattle.engine.specs.declared.Requested.{Requested}
-use Rattle.engine.specs.declared.Use.the-variants.{Empty}
+use Rattle.uses.specs.declared.Use.the-variants.{Empty}
 use Rattle.engine.specs.States.{with-figures}
 use Rattle.engine.specs.Slot.{slotOf, slotRefusal, settled, answered}
 use Rattle.engine.specs.Calls.{requestOf, requestRefusal, joined}

@@ -10,9 +10,9 @@ use Rattle.seq.specs.Places.{flag}
 use Rattle.law.specs.Age.{released}
 use Rattle.law.specs.Judge as judge
 use Rattle.engine.specs.declared.Answer.{Answer}
-use Rattle.engine.specs.declared.Use.{Use}
-use Rattle.engine.specs.declared.Use.the-variants.{Hard, Given, Empty, Lost}
-use Rattle.engine.specs.Slot.{isLost}
+use Rattle.uses.specs.declared.Use.{Use}
+use Rattle.uses.specs.declared.Use.the-variants.{Hard, Given, Empty, Lost}
+use Rattle.uses.specs.Uses.{isLost}
 
 abbrev pub noAnswer : Answer
 noAnswer = record { number = 0; used = Empty; word = 0; late = 0 }

@@ -6,12 +6,12 @@ use lib.Dec.{eqb, ltb}
 use lib.ListN.{length}
 use Rattle.table.specs.declared.Verdict.{Verdict}
 use Rattle.table.specs.Verdicts.{numberOf, rowNamed, taken, _andThen_}
-use Rattle.table.specs.Record.{readOf}
+use Rattle.record.specs.Record.{readOf}
 use Rattle.engine.specs.declared.State.{State}
 use Rattle.engine.specs.declared.Started.{Started}
 use Rattle.engine.specs.declared.Answer.{Answer}
-use Rattle.engine.specs.declared.Use.{Use}
-use Rattle.engine.specs.declared.Use.the-variants as use-for
+use Rattle.uses.specs.declared.Use.{Use}
+use Rattle.uses.specs.declared.Use.the-variants as use-for
 use Rattle.engine.specs.Slot.{slotOf}
 use Rattle.engine.specs.Calls.{requestOf, lateTotalOf}
 use Rattle.engine.specs.Start.{startOf}

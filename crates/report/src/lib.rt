@@ -9,11 +9,11 @@ ghost use Rattle.engine.specs.Calls.{requestOf};
 ghost use Rattle.report.specs.Listing.{openedOf, shownOf, answerText, numberText, heardOf, totalText};
 use engine::Answer;
 use engine::State;
-use engine::Use;
 use events::Event;
 use lines::Line;
 use lines::Shown;
 use table::Verdict;
+use uses::Use;
 
 // The line may be empty. Where `going` is false no event follows.
 pub struct Opened {
@@ -38,7 +38,7 @@ fn refused(v: Verdict) -> Line
 pub fn open(s: &[u8]) -> Opened
     ensures { λ r. ⌜ r ≡ openedOf (now (s .entry)) ⌝ }
 {
-    let r = table::read(events::record(s));
+    let r = record::read(events::record(s));
     let x = r.table;
     let b = engine::start(x);
     let state = b.state;

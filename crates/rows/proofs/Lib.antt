@@ -1,5 +1,3 @@
 pub mod Idle
-pub mod Counts
 pub mod Points
-pub mod Kept
 pub mod Outcomes

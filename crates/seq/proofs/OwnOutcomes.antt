@@ -9,6 +9,9 @@ use Rattle.seq.proofs.either.Reads as either
 use Rattle.seq.proofs.byte.Reads as byte
 use Rattle.seq.proofs.big.Reads as big
 use Rattle.seq.proofs.less.Reads as less
+use Rattle.seq.proofs.lesser.Reads as lesser
+use Rattle.seq.proofs.pick.Reads as pick
+use Rattle.seq.proofs.has.Reads as has
 
 both-one : OneOutcome both.Post (λ κs x s. x)
 both-one = one-outcome both.Post _ _ (λ κs a x s p. p)
@@ -24,3 +27,12 @@ big-one = one-outcome big.Post _ _ (λ κs a x s p. p)
 
 less-one : OneOutcome less.Post (λ κs x s. x)
 less-one = one-outcome less.Post _ _ (λ κs a x s p. p)
+
+lesser-one : OneOutcome lesser.Post (λ κs x s. x)
+lesser-one = one-outcome lesser.Post _ _ (λ κs a x s p. p)
+
+pick-one : OneOutcome pick.Post (λ κs x s. x)
+pick-one = one-outcome pick.Post _ _ (λ κs a x s p. p)
+
+has-one : OneOutcome has.Post (λ κs x s. x)
+has-one = one-outcome has.Post _ _ (λ κs a x s p. p)

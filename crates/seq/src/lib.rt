@@ -1,9 +1,10 @@
 // Lists, words and bytes: what several crates need and none of them owns.
 
 ghost use mathlib.Core.Path.{_≡_};
-ghost use mathlib.Core.Bool.{_&&_, _||_};
-ghost use Prim.Native.Nat.{_-_, _<_};
+ghost use mathlib.Core.Bool.{cond, _&&_, _||_};
+ghost use Prim.Native.Nat.{_-_, _<_, min};
 ghost use Rattle.seq.specs.Places.{at};
+ghost use Rattle.seq.specs.Words.{bit};
 ghost use Rattle.seq.specs.Bytes.{bigAt};
 
 // Both tests are made, so that a chain of them has no branch and no fact to prove.
@@ -44,4 +45,23 @@ pub fn less(x: u16) -> u16
     ensures { λ r. ⌜ r ≡ x - 1 ⌝ }
 {
     if x == 0 { 0 } else { x - 1 }
+}
+
+pub fn lesser(a: usize, b: usize) -> usize
+    ensures { λ r. ⌜ r ≡ min a b ⌝ }
+{
+    if a < b { a } else { b }
+}
+
+pub fn pick(on: bool, x: u16, y: u16) -> u16
+    ensures { λ r. ⌜ r ≡ cond on x y ⌝ }
+{
+    if on { x } else { y }
+}
+
+// Bit i of a word, which has none from 16 on.
+pub fn has(w: u16, i: usize) -> bool
+    ensures { λ r. ⌜ r ≡ bit w i ⌝ }
+{
+    if i < 16 { (w >> i) % 2 == 1 } else { false }
 }

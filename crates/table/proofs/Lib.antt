@@ -1,8 +1,5 @@
 pub mod Verdicts
-pub mod Record
 pub mod WellFormed
-pub mod Refusals
-pub mod RoundTrip
 pub mod Theorems
 pub mod Vectors
 pub mod Outcomes

@@ -1,6 +1,5 @@
 pub mod Verdicts
 pub mod Form
-pub mod Record
 pub mod WellFormed
 pub mod Refusals
 pub mod Theorems

@@ -1,51 +1,21 @@
 -- `engine::late_total` meets its contract. Assumes nothing.
 use Rattle.engine.specs.Calls.{lateTotalOf}
 use Rattle.engine.specs.Legal.{legal}
-use Rattle.rows.proofs.Counts.{total-exact}
+use Rattle.late.proofs.Counts.{total-exact}
 use Prim.Native.Nat.{_-_}
-use Rattle.engine.proofs.Legality.{legal-says, legal-tested, late-low}
+use Rattle.engine.proofs.Legality.{legal-says, late-low}
 use native.Mathlib.Omega.{arith}
 use borrow.Author.Tests.{not-true, not-false}
 use mathlib.Core.Path.{_≡_, sym, _∙_}
 use Rattle.engine.proofs.late_total.Statement.{statement}
 use Rattle.engine.proofs.late_total.Tie as tie
 
-tested : (c : tie.After-both3) → c .both3 .result ≡ legal (c .before .before .before .before .before .before .before .before .before .before .before .before .before .before .before .before .before .before .before .args .t1)
-tested c =
-    let x1 = c .before in
-    let x2 = x1 .before in
-    let x3 = x2 .before in
-    let x4 = x3 .before in
-    let x8 = x4 .before .before .before .before in
-    let x9 = x8 .before in
-    let x18 = x9 .before .before .before .before .before .before .before .before .before in
-    let x19 = x18 .before in
-    let v = x19 .args in
-    legal-tested (v .t1) (x18 .before2 .ensures) (x9 .rows-legal .ensures) (x8 .tallies-legal .ensures) (x4 .is-proper .ensures) (x3 .both .ensures) (x2 .clock-legal .ensures) (x1 .both2 .ensures) (c .both3 .ensures)
+tested : (c : tie.After-is-legal) → c .is-legal .result ≡ legal (c .before .before .before .before .before .before .before .before .before .before .before .args .t1)
+unfolding legal
+tested c = c .is-legal .ensures
 
-before-requires : tie.Need-before-requires
-before-requires c κs = tt
-
-rows-legal-requires : tie.Need-rows-legal-requires
-rows-legal-requires c κs = tt
-
-tallies-legal-requires : tie.Need-tallies-legal-requires
-tallies-legal-requires c κs = tt
-
-is-proper-requires : tie.Need-is-proper-requires
-is-proper-requires c κs = tt
-
-both-requires : tie.Need-both-requires
-both-requires c κs = tt
-
-clock-legal-requires : tie.Need-clock-legal-requires
-clock-legal-requires c κs = tt
-
-both-requires-2 : tie.Need-both-requires-2
-both-requires-2 c κs = tt
-
-both-requires-3 : tie.Need-both-requires-3
-both-requires-3 c κs = tt
+is-legal-requires : tie.Need-is-legal-requires
+is-legal-requires c κs = tt
 
 returns : tie.Need-returns
 unfolding lateTotalOf
@@ -67,14 +37,7 @@ pub late-total-spec : {M : Type 1} → statement M
 late-total-spec =
     tie.close
     (tie.spec
-    before-requires
-    rows-legal-requires
-    tallies-legal-requires
-    is-proper-requires
-    both-requires
-    clock-legal-requires
-    both-requires-2
-    both-requires-3
+    is-legal-requires
     returns
     late-total-requires
     returns-2)

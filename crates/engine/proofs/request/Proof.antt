@@ -1,9 +1,10 @@
 -- `engine::request` meets its contract. Assumes nothing.
+use Rattle.engine.specs.Legal.{legal}
 use Rattle.engine.specs.Calls.{requestRefusal, requestOf}
 use Rattle.engine.proofs.Ran.{joined-is}
 use lib.ListN.{length}
 use Prim.Native.Nat.{_-_}
-use Rattle.engine.proofs.Legality.{legal-tested, request-tested, request-legal}
+use Rattle.engine.proofs.Legality.{request-tested, request-legal}
 use native.Mathlib.Omega.{arith}
 use borrow.Author.Tests.{ne-eqb}
 use mathlib.Core.Path.{_≡_, sym, _∙_}
@@ -17,45 +18,12 @@ names-long c = search needs
 sizes-long : (c : tie.Start) → length (c .args .s .sizes) ≡ 32
 sizes-long c = search needs
 
-tested : (c : tie.After-request-refusal) → let v = c .before .before .before .before .before .before .before .before .before .before .before .before .before .before .before .before .before .before .before .before .args in c .request-refusal .result ≡ requestRefusal (v .s) (v .name) (v .size)
-tested c =
-    let x1 = c .before in
-    let x2 = x1 .before in
-    let x3 = x2 .before in
-    let x4 = x3 .before in
-    let x5 = x4 .before in
-    let x9 = x5 .before .before .before .before in
-    let x10 = x9 .before in
-    let x19 = x10 .before .before .before .before .before .before .before .before .before in
-    let x20 = x19 .before in
-    let v = x20 .args in
-    request-tested (v .s) (v .name) (v .size)
-    (legal-tested (v .s) (x19 .before2 .ensures) (x10 .rows-legal .ensures) (x9 .tallies-legal .ensures) (x5 .is-proper .ensures) (x4 .both .ensures) (x3 .clock-legal .ensures) (x2 .both2 .ensures) (x1 .both3 .ensures))
-    (c .request-refusal .ensures)
+tested : (c : tie.After-request-refusal) → let v = c .before .before .before .before .before .before .before .before .before .before .before .before .args in c .request-refusal .result ≡ requestRefusal (v .s) (v .name) (v .size)
+unfolding legal
+tested c = request-tested _ _ _ (c .before .is-legal .ensures) (c .request-refusal .ensures)
 
-before-requires : tie.Need-before-requires
-before-requires c κs = tt
-
-rows-legal-requires : tie.Need-rows-legal-requires
-rows-legal-requires c κs = tt
-
-tallies-legal-requires : tie.Need-tallies-legal-requires
-tallies-legal-requires c κs = tt
-
-is-proper-requires : tie.Need-is-proper-requires
-is-proper-requires c κs = tt
-
-both-requires : tie.Need-both-requires
-both-requires c κs = tt
-
-clock-legal-requires : tie.Need-clock-legal-requires
-clock-legal-requires c κs = tt
-
-both-requires-2 : tie.Need-both-requires-2
-both-requires-2 c κs = tt
-
-both-requires-3 : tie.Need-both-requires-3
-both-requires-3 c κs = tt
+is-legal-requires : tie.Need-is-legal-requires
+is-legal-requires c κs = tt
 
 request-refusal-requires : tie.Need-request-refusal-requires
 request-refusal-requires c κs = tt
@@ -80,11 +48,11 @@ returns c =
     let x2 = c .before .before in
     let x4 = x2 .before .before in
     let x5 = x4 .before in
-    let x25 = x5 .before .before .before .before .before .before .before .before .before .before .before .before .before .before .before .before .before .before .before .before in
-    let v = x25 .args in
+    let x17 = x5 .before .before .before .before .before .before .before .before .before .before .before .before in
+    let v = x17 .args in
     let z = sym (tested x5) ∙ x4 .if1 .taken in
     let g = request-legal (v .s) (v .name) (v .size) z in
-    rw (x4 .if1 .taken, z, joined-is (v .s) (g .0) (names-long x25) (sizes-long x25) (v .name) (v .size) (g .1) (g .2) (x2 .put .ensures) (c .put2 .ensures))
+    rw (x4 .if1 .taken, z, joined-is (v .s) (g .0) (names-long x17) (sizes-long x17) (v .name) (v .size) (g .1) (g .2) (x2 .put .ensures) (c .put2 .ensures))
 
 returns-2 : tie.Need-returns-2
 unfolding requestOf
@@ -96,14 +64,7 @@ pub request-spec : {M : Type 1} → statement M
 request-spec =
     tie.close
     (tie.spec
-    before-requires
-    rows-legal-requires
-    tallies-legal-requires
-    is-proper-requires
-    both-requires
-    clock-legal-requires
-    both-requires-2
-    both-requires-3
+    is-legal-requires
     request-refusal-requires
     put-requires
     put-requires-2

@@ -1,12 +1,13 @@
 -- `engine::slot` meets its contract. Assumes nothing.
+use Rattle.engine.specs.Legal.{legal}
 use Rattle.engine.specs.Slot.{slotRefusal, slotOf}
-use Rattle.engine.proofs.Ran.{chosen-place, ran-is}
+use Rattle.engine.proofs.Ran.{ran-is}
 use lib.ListN.{length}
 use Prim.Native.Nat.{_-_}
-use Rattle.engine.proofs.Legality.{legal-tested, slot-tested, slot-legal}
+use Rattle.engine.proofs.Legality.{slot-tested, slot-legal}
 use native.Mathlib.Omega.{arith}
 use borrow.Author.Tests.{ne-eqb}
-use mathlib.Core.Path.{_≡_, sym, _∙_}
+use mathlib.Core.Path.{_≡_, refl, sym, _∙_}
 use borrow.Author.Needs.{needs}
 use Rattle.engine.proofs.slot.Statement.{statement}
 use Rattle.engine.proofs.slot.Tie as tie
@@ -17,51 +18,28 @@ names-long c = search needs
 sizes-long : (c : tie.Start) → length (c .args .s .sizes) ≡ 32
 sizes-long c = search needs
 
-tested : (c : tie.After-slot-refusal) → let v = c .before .before .before .before .before .before .before .before .before .before .before .before .before .before .before .before .before .before .before .before .args in c .slot-refusal .result ≡ slotRefusal (v .s) (v .lost)
-tested c =
-    let x1 = c .before in
-    let x2 = x1 .before in
-    let x3 = x2 .before in
-    let x4 = x3 .before in
-    let x5 = x4 .before in
-    let x9 = x5 .before .before .before .before in
-    let x10 = x9 .before in
-    let x19 = x10 .before .before .before .before .before .before .before .before .before in
-    let x20 = x19 .before in
-    let v = x20 .args in
-    slot-tested (v .s) (v .lost)
-    (legal-tested (v .s) (x19 .before2 .ensures) (x10 .rows-legal .ensures) (x9 .tallies-legal .ensures) (x5 .is-proper .ensures) (x4 .both .ensures) (x3 .clock-legal .ensures) (x2 .both2 .ensures) (x1 .both3 .ensures))
-    (c .slot-refusal .ensures)
+tested : (c : tie.After-slot-refusal) → let v = c .before .before .before .before .before .before .before .before .before .before .before .before .args in c .slot-refusal .result ≡ slotRefusal (v .s) (v .lost)
+unfolding legal
+tested c = slot-tested _ _ (c .before .is-legal .ensures) (c .slot-refusal .ensures)
 
-before-requires : tie.Need-before-requires
-before-requires c κs = tt
+-- where it is 0
+taken : (c : tie.Then1) → let v = c .before .before .before .before .before .before .before .before .before .before .before .before .before .before .args in slotRefusal (v .s) (v .lost) ≡ 0
+taken c = sym (tested (c .before .before)) ∙ c .if1 .taken
 
-rows-legal-requires : tie.Need-rows-legal-requires
-rows-legal-requires c κs = tt
-
-tallies-legal-requires : tie.Need-tallies-legal-requires
-tallies-legal-requires c κs = tt
-
-is-proper-requires : tie.Need-is-proper-requires
-is-proper-requires c κs = tt
-
-both-requires : tie.Need-both-requires
-both-requires c κs = tt
-
-clock-legal-requires : tie.Need-clock-legal-requires
-clock-legal-requires c κs = tt
-
-both-requires-2 : tie.Need-both-requires-2
-both-requires-2 c κs = tt
-
-both-requires-3 : tie.Need-both-requires-3
-both-requires-3 c κs = tt
+is-legal-requires : tie.Need-is-legal-requires
+is-legal-requires c κs = tt
 
 slot-refusal-requires : tie.Need-slot-refusal-requires
 slot-refusal-requires c κs = tt
 
 refused-requires : tie.Need-refused-requires
 refused-requires c κs = tt
+
+sub-ran : tie.Need-sub-ran
+sub-ran c =
+    let g = slot-legal _ _ (taken c) in
+    let h = g .0 .began in
+    search needs
 
 reload-requires : tie.Need-reload-requires
 reload-requires c κs = tt
@@ -79,7 +57,7 @@ element-copy-out-name : tie.Need-element-copy-out-name
 element-copy-out-name c = search needs
 
 used-for-requires : tie.Need-used-for-requires
-used-for-requires c κs = rw (c .before .choose .ensures) (chosen-place _ _ _ _ _)
+used-for-requires c κs = tt
 
 is-given-requires : tie.Need-is-given-requires
 is-given-requires c κs = tt
@@ -146,9 +124,7 @@ tally-requires-4 c κs = tt
 
 add-r : tie.Need-add-r
 add-r c =
-    let x54 = c .before .before .before .before .before .before .before .before .before .before .before .before .before .before .before .before .before .before .before .before .before .before .before .before .before .before .before .before .before .before .before .before .before .before .before .before .before .before .before .before .before .before .before .before .before .before .before .before .before .before .before .before .before .before in
-    let x56 = x54 .before .before in
-    let g = slot-legal _ _ (sym (tested x56) ∙ x54 .if1 .taken) in
+    let g = slot-legal _ _ (taken (c .before .before .before .before .before .before .before .before .before .before .before .before .before .before .before .before .before .before .before .before .before .before .before .before .before .before .before .before .before .before .before .before .before .before .before .before .before .before .before .before .before .before .before .before .before .before .before .before .before .before .before .before .before .before)) in
     let h = g .1 in
     record { fits = omega arith }
 
@@ -184,14 +160,12 @@ returns c =
     let x45 = x41 .before .before .before .before in
     let x49 = x45 .before .before .before .before in
     let x55 = x49 .before .before .before .before .before .before in
-    let x57 = x55 .before .before in
-    let x76 = x57 .before .before .before .before .before .before .before .before .before .before .before .before .before .before .before .before .before .before .before in
-    let x77 = x76 .before in
-    let v = x77 .args in
-    let z = sym (tested x57) ∙ x55 .if1 .taken in
+    let x69 = x55 .before .before .before .before .before .before .before .before .before .before .before .before .before .before in
+    let v = x69 .args in
+    let z = taken x55 in
     rw z
-    (ran-is (v .s) (slot-legal (v .s) (v .lost) z .0) (names-long x77) (sizes-long x77) (v .lost)
-    (x76 .before2 .ensures)
+    (ran-is (v .s) (slot-legal (v .s) (v .lost) z .0) (names-long x69) (sizes-long x69) (v .lost)
+    refl
     (x49 .reload .ensures)
     (x45 .mark .ensures)
     (x41 .release .ensures)
@@ -229,16 +203,10 @@ pub slot-spec : {M : Type 1} → statement M
 slot-spec =
     tie.close
     (tie.spec
-    before-requires
-    rows-legal-requires
-    tallies-legal-requires
-    is-proper-requires
-    both-requires
-    clock-legal-requires
-    both-requires-2
-    both-requires-3
+    is-legal-requires
     slot-refusal-requires
     refused-requires
+    sub-ran
     reload-requires
     mark-requires
     release-requires

@@ -1,7 +1,7 @@
 -- `lent::fjurke_read` meets its contract. Assumes nothing.
 use mathlib.Core.Path.{ap, _∙_}
 use Rattle.table.specs.Verdicts.{numberOf, rowNamed}
-use Rattle.table.specs.declared.Reading.{Reading}
+use Rattle.record.specs.declared.Reading.{Reading}
 use borrow.Author.Needs.{needs}
 use Rattle.lent.proofs.fjurke_read.Statement.{statement}
 use Rattle.lent.proofs.fjurke_read.Tie as tie

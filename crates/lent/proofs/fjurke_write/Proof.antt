@@ -1,7 +1,7 @@
 -- `lent::fjurke_write` meets its contract. Assumes nothing.
 use mathlib.Core.Path.{ap, _∙_}
 use Rattle.table.specs.Verdicts.{numberOf, rowNamed}
-use Rattle.table.specs.declared.Written.{Written}
+use Rattle.record.specs.declared.Written.{Written}
 use borrow.Author.Needs.{needs}
 use Rattle.lent.proofs.fjurke_write.Statement.{statement}
 use Rattle.lent.proofs.fjurke_write.Tie as tie

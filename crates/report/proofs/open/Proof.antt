@@ -5,9 +5,9 @@ use native.Mathlib.Omega.{arith}
 use lib.ListN.{length}
 use borrow.Author.Tests.{lt-ltb, le-ltb}
 use Rattle.table.specs.declared.Verdict.{Verdict}
-use Rattle.table.specs.declared.Reading.{Reading}
+use Rattle.record.specs.declared.Reading.{Reading}
 use Rattle.table.specs.Verdicts.{numberOf, rowNamed}
-use Rattle.table.specs.Record.{readOf}
+use Rattle.record.specs.Record.{readOf}
 use Rattle.engine.specs.declared.Started.{Started}
 use Rattle.engine.specs.Start.{startOf}
 use Rattle.lines.specs.Lines.{refusedLine, lineOf}

@@ -1,6 +1,6 @@
 -- `report::show` meets its contract. Assumes nothing.
 use mathlib.Core.Path.{_≡_}
-use Rattle.engine.specs.declared.Use.the-variants as use-for
+use Rattle.uses.specs.declared.Use.the-variants as use-for
 use borrow.Author.Needs.{needs}
 use Rattle.report.proofs.show.Statement.{statement}
 use Rattle.report.proofs.show.Tie as tie

@@ -14,11 +14,11 @@ Inv-loop left n m first₀ first = (first ≤ m) × (m ≡ rowsOf n) × (first �
 abbrev μ-loop : tie.MeasureT-loop
 μ-loop left n m first₀ first = m - first
 
-rows-requires : tie.Need-rows-requires Inv-loop μ-loop
-rows-requires c κs = search needs
+lesser-requires : tie.Need-lesser-requires Inv-loop μ-loop
+lesser-requires c κs = search needs
 
 loop-holds : tie.Need-loop-holds Inv-loop μ-loop
-loop-holds c = (omega arith, c .rows .ensures, omega arith)
+loop-holds c = (omega arith, c .lesser .ensures, omega arith)
 
 mul-if1 : tie.Need-mul-if1 Inv-loop μ-loop
 mul-if1 c = search needs
@@ -55,7 +55,7 @@ idle-rows-spec =
     (tie.spec
     Inv-loop
     μ-loop
-    rows-requires
+    lesser-requires
     loop-holds
     mul-if1
     element-copy-out-if1

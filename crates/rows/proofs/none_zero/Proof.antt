@@ -19,12 +19,12 @@ Inv-loop counter n m i₀ i = (i ≤ m) × (m ≡ rowsOf n) × (every i (λ j. l
 abbrev μ-loop : tie.MeasureT-loop
 μ-loop counter n m i₀ i = m - i
 
-rows-requires : tie.Need-rows-requires Inv-loop μ-loop
-rows-requires c κs = search needs
+lesser-requires : tie.Need-lesser-requires Inv-loop μ-loop
+lesser-requires c κs = search needs
 
 loop-holds : tie.Need-loop-holds Inv-loop μ-loop
 unfolding every
-loop-holds c = (omega arith, c .rows .ensures, refl)
+loop-holds c = (omega arith, c .lesser .ensures, refl)
 
 mul-if1 : tie.Need-mul-if1 Inv-loop μ-loop
 mul-if1 c = search needs
@@ -66,7 +66,7 @@ none-zero-spec =
     (tie.spec
     Inv-loop
     μ-loop
-    rows-requires
+    lesser-requires
     loop-holds
     mul-if1
     element-copy-out-if1

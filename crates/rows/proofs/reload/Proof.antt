@@ -17,12 +17,12 @@ Inv-loop counter₀ left k n m i₀ counter i =
 abbrev μ-loop : tie.MeasureT-loop
 μ-loop counter₀ left k n m i₀ counter i = m - i
 
-rows-requires : tie.Need-rows-requires Inv-loop μ-loop
-rows-requires c κs = search needs
+lesser-requires : tie.Need-lesser-requires Inv-loop μ-loop
+lesser-requires c κs = search needs
 
 loop-holds : tie.Need-loop-holds Inv-loop μ-loop
 unfolding over
-loop-holds c = (omega arith, c .rows .ensures, omega arith, refl)
+loop-holds c = (omega arith, c .lesser .ensures, omega arith, refl)
 
 mul-if1 : tie.Need-mul-if1 Inv-loop μ-loop
 mul-if1 c = search needs
@@ -79,7 +79,7 @@ reload-spec =
     (tie.spec
     Inv-loop
     μ-loop
-    rows-requires
+    lesser-requires
     loop-holds
     mul-if1
     element-copy-out-if1

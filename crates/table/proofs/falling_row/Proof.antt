@@ -15,8 +15,8 @@ Inv-loop n t m i₀ i = (i ≤ min n 16) × (i ≤ fallingRow n t)
 abbrev μ-loop : tie.MeasureT-loop
 μ-loop n t m i₀ i = min n 16 - i
 
-rows-requires : tie.Need-rows-requires Inv-loop μ-loop
-rows-requires c κs = search needs
+lesser-requires : tie.Need-lesser-requires Inv-loop μ-loop
+lesser-requires c κs = search needs
 
 loop-holds : tie.Need-loop-holds Inv-loop μ-loop
 loop-holds c = search needs
@@ -58,7 +58,7 @@ loop-again c =
     let a = c .before .before .before .before .before .before .before .args in
     let e = c .before .before .before .before2 .ensures in
     let t = a .t .now in
-    let m = c .before .before .before .before .before .before .rows .ensures in
+    let m = c .before .before .before .before .before .before .lesser .ensures in
     let i : l .i < min (a .n) 16 = omega arith in
     (omega arith, omega (arith, lead-miss (min (a .n) 16) (rising t) (l .i) i (rw e at (le-leb _ _ (c .if1 .left))) (l .inv .1)))
 
@@ -66,7 +66,7 @@ returns-2 : tie.Need-returns-2 Inv-loop μ-loop
 unfolding fallingRow
 returns-2 c =
     let a = c .before .before .before .args in
-    let e = c .before .before .rows .ensures in
+    let e = c .before .before .lesser .ensures in
     omega (arith, lead-most (min (a .n) 16) (rising (a .t .now)))
 
 pub falling-row-spec : {M : Type 1} → statement M
@@ -75,7 +75,7 @@ falling-row-spec =
     (tie.spec
     Inv-loop
     μ-loop
-    rows-requires
+    lesser-requires
     loop-holds
     before-requires
     mul-if1

@@ -10,8 +10,8 @@ use Rattle.table.proofs.periods_verdict.Tie as tie
 falling-row-requires : tie.Need-falling-row-requires
 falling-row-requires c κs = search needs
 
-rows-requires : tie.Need-rows-requires
-rows-requires c κs = search needs
+lesser-requires : tie.Need-lesser-requires
+lesser-requires c κs = search needs
 
 add-refusal : tie.Need-add-refusal
 add-refusal c =
@@ -23,8 +23,8 @@ refusal-requires c κs = search needs
 
 returns : tie.Need-returns
 unfolding periodsVerdict
-returns c = rw (c .refusal .ensures, c .before .before .falling-row .ensures, c .before .rows .ensures, add-one)
+returns c = rw (c .refusal .ensures, c .before .before .falling-row .ensures, c .before .lesser .ensures, add-one)
 
 pub periods-verdict-spec : {M : Type 1} → statement M
 periods-verdict-spec =
-    tie.close (tie.spec falling-row-requires rows-requires add-refusal refusal-requires returns)
+    tie.close (tie.spec falling-row-requires lesser-requires add-refusal refusal-requires returns)

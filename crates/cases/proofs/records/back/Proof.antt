@@ -2,8 +2,8 @@
 use lib.ListN.{length}
 use lib.Seq.{length-take-le}
 use mathlib.Core.Path.{sym}
-use Rattle.table.specs.Record.{writtenOf, bufferOf}
-use Rattle.table.proofs.RoundTrip.{written-fits}
+use Rattle.record.specs.Record.{writtenOf, bufferOf}
+use Rattle.record.proofs.RoundTrip.{written-fits}
 use borrow.Author.Needs.{needs}
 use Rattle.cases.proofs.records.back.Statement.{statement}
 use Rattle.cases.proofs.records.back.Tie as tie

@@ -1,0 +1,18 @@
+-- The figures of a legal state's rows.
+use Prim.Native.Nat.{ℕ, _-_}
+use mathlib.Core.List.{List}
+use mathlib.Core.Bool.{Bool, cond, _&&_}
+use lib.Dec.{eqb, ltb, leb}
+use Rattle.seq.specs.Places.{at, every}
+
+-- allowance, counter and work left within their bounds, and zero past n
+abbrev pub rowKept : Bool → ℕ → ℕ → ℕ → ℕ → ℕ → Bool
+rowKept used c d k left counter =
+    cond used (leb k (d - c) && leb counter k && leb left c) (eqb k 0 && eqb counter 0 && eqb left 0)
+
+unfoldable pub rowsKept : ℕ → List ℕ → List ℕ → List ℕ → List ℕ → List ℕ → Bool
+rowsKept n c d k left counter = every 16 (λ i. rowKept (ltb i n) (at c i) (at d i) (at k i) (at left i) (at counter i))
+
+-- late counts at most the slots run, and zero past n
+unfoldable pub latesKept : ℕ → ℕ → List ℕ → Bool
+latesKept n ran late = every 16 (λ i. leb (at late i) (cond (ltb i n) ran 0))

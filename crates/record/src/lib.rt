@@ -1,0 +1,196 @@
+// The record of a table, read and written.
+
+ghost use mathlib.Core.Path.{_≡_};
+ghost use mathlib.Core.List.{_++_};
+ghost use Prim.Native.Nat.{_+_, _≤_, _<_};
+ghost use lib.ListN.{length, replicate};
+ghost use lib.Seq.{sets};
+ghost use Rattle.seq.specs.Places.{at};
+ghost use Rattle.seq.specs.Bytes.{bigBytes};
+ghost use Rattle.record.specs.Record.{rowPlace, rowSpelt, spelt, headVerdict, readOf, rowsBytes, headBytes, writtenOf, bufferOf};
+use seq::big;
+use seq::both;
+use seq::byte;
+use seq::lesser;
+use table::Table;
+use table::Verdict;
+use table::form;
+use table::refusal;
+
+pub struct Reading {
+    pub verdict: Verdict,
+    pub table: Table,
+}
+
+pub struct Written {
+    pub verdict: Verdict,
+    pub length: usize,
+}
+
+// Refusals 1, 2 and 3.
+fn head(s: &[u8]) -> Verdict
+    ensures { λ r. ⌜ r ≡ headVerdict (now (s .entry)) ⌝ }
+{
+    if s.len() < 4 {
+        return Verdict::Refused(1, 0);
+    }
+    let version = byte(s, 0);
+    if version != 1 {
+        return Verdict::Refused(2, 0);
+    }
+    let field = wide(big(&s[1..3]));
+    let n = wide(byte(s, 3));
+    let fits = both(field == s.len() - 3, field == 1 + 6 * n);
+    refusal(!fits, 3, 0)
+}
+
+fn wide(x: u16) -> usize
+    ensures { λ r. ⌜ r ≡ x ⌝ }
+{
+    x as usize
+}
+
+struct Row {
+    c: u16,
+    t: u16,
+    d: u16,
+}
+
+// The three numbers of a row's own six bytes.
+fn row_in(p: &[u8]) -> Row
+    requires { ⌜ length (now p) ≡ 6 ⌝ }
+    ensures { λ r. ⌜ r ≡ rowSpelt (now (p .entry)) ⌝ }
+{
+    let c = big(&p[0..2]);
+    let t = big(&p[2..4]);
+    let d = big(&p[4..6]);
+    Row { c: c, t: t, d: d }
+}
+
+fn none(n: usize) -> Table
+    ensures { λ r. ⌜ r ≡ record { n = n; c = replicate 16 0; t = replicate 16 0; d = replicate 16 0 } ⌝ }
+{
+    Table {
+        n: n,
+        c: [0; 16],
+        t: [0; 16],
+        d: [0; 16],
+    }
+}
+
+// The rows of a record, of which there are bytes enough.
+fn table_in(s: &[u8]) -> Table
+    requires { ⌜ rowPlace (at (now s) 3) ≤ length (now s) ⌝ }
+    ensures { λ r. ⌜ r ≡ spelt (now (s .entry)) ⌝ }
+{
+    let n = wide(byte(s, 3));
+    let m = lesser(n, 16);
+    let mut x = none(n);
+    let mut i = 0;
+    while i < m {
+        let a = 4 + 6 * i;
+        let e = a + 6;
+        let r = row_in(&s[a..e]);
+        x.c[i] = r.c;
+        x.t[i] = r.t;
+        x.d[i] = r.d;
+        i += 1;
+    }
+    x
+}
+
+pub fn read(s: &[u8]) -> Reading
+    ensures { λ r. ⌜ r ≡ readOf (now (s .entry)) ⌝ }
+{
+    let h = head(s);
+    let Verdict::Taken = h else {
+        return Reading {
+            verdict: h,
+            table: none(0),
+        };
+    };
+    let x = table_in(s);
+    let v = form(x.n, &x.c, &x.t, &x.d);
+    let Verdict::Taken = v else {
+        return Reading {
+            verdict: v,
+            table: none(0),
+        };
+    };
+    Reading {
+        verdict: Verdict::Taken,
+        table: x,
+    }
+}
+
+fn put_big(b: &mut [u8], p: usize, x: u16)
+    requires { ⌜ p + 1 < length (now b) ⌝ }
+    ensures { λ _. ⌜ now (b .exit) ≡ sets (now (b .entry)) p (bigBytes x) ⌝ }
+{
+    b[p] = (x / 256) as u8;
+    b[p + 1] = (x % 256) as u8;
+}
+
+fn narrow(n: usize) -> u16
+    requires { ⌜ n < 65536 ⌝ }
+    ensures { λ r. ⌜ r ≡ n ⌝ }
+{
+    n as u16
+}
+
+fn put_head(b: &mut [u8], n: usize)
+    requires { ⌜ (n ≤ 16) × (4 ≤ length (now b)) ⌝ }
+    ensures { λ _. ⌜ now (b .exit) ≡ sets (now (b .entry)) 0 (headBytes n) ⌝ }
+{
+    b[0] = 1;
+    put_big(&mut *b, 1, narrow(1 + 6 * n));
+    b[3] = n as u8;
+}
+
+fn put_row(b: &mut [u8], p: usize, c: u16, t: u16, d: u16)
+    requires { ⌜ p + 6 ≤ length (now b) ⌝ }
+    ensures { λ _. ⌜ now (b .exit) ≡ sets (now (b .entry)) p (bigBytes c ++ bigBytes t ++ bigBytes d) ⌝ }
+{
+    put_big(&mut *b, p, c);
+    put_big(&mut *b, p + 2, t);
+    put_big(&mut *b, p + 4, d);
+}
+
+fn put_rows(b: &mut [u8], x: Table)
+    requires { ⌜ (x .n ≤ 16) × (rowPlace (x .n) ≤ length (now b)) ⌝ }
+    ensures { λ _. ⌜ now (b .exit) ≡ sets (now (b .entry)) 4 (rowsBytes x (x .n)) ⌝ }
+{
+    let n = x.n;
+    let mut i = 0;
+    while i < n {
+        put_row(&mut *b, 4 + 6 * i, x.c[i], x.t[i], x.d[i]);
+        i += 1;
+    }
+}
+
+// The record in the first bytes of the buffer; the rest stays, and so does all of it where the table is refused.
+pub fn write(x: Table, b: &mut [u8]) -> Written
+    ensures { λ r. ⌜ (r ≡ writtenOf x (length (now (b .entry)))) × (now (b .exit) ≡ bufferOf x (now (b .entry))) ⌝ }
+{
+    let n = x.n;
+    let v = form(n, &x.c, &x.t, &x.d);
+    let Verdict::Taken = v else {
+        return Written {
+            verdict: v,
+            length: 0,
+        };
+    };
+    let e = 4 + 6 * n;
+    if b.len() < e {
+        return Written {
+            verdict: Verdict::Refused(12, 0),
+            length: 0,
+        };
+    }
+    put_head(&mut *b, n);
+    put_rows(&mut *b, x);
+    Written {
+        verdict: Verdict::Taken,
+        length: e,
+    }
+}

@@ -1,0 +1,135 @@
+// Who should have a slot, and what it was used for.
+
+ghost use mathlib.Core.Path.{_≡_};
+ghost use mathlib.Core.Bool.{_&&_, not};
+ghost use Rattle.uses.specs.Uses.{chosen, isGive, chosenUse, usedFor, rowServed, isHard, isGiven, isEmpty, isLost};
+use seq::both;
+use seq::lesser;
+
+// Who should have a slot: the head request, the first row with work left by its number from 1 on, the head request in the
+// background, or nobody.
+pub enum Choice {
+    Give,
+    Hard(usize),
+    Back,
+    Idle,
+}
+
+// What a slot was used for: a row by its number from 1 on, a request by its name.
+pub enum Use {
+    Hard(usize),
+    Given(u16),
+    Empty,
+    Lost,
+}
+
+// The head request if no counter is 0, else the first row with work left, else the head in the background.
+pub fn choose<'a>(left: &'a [u16; 16], counter: &'a [u16; 16], count: usize, n: usize) -> Choice
+    ensures { λ r. ⌜ r ≡ chosen n count (now (left .entry)) (now (counter .entry)) ⌝ }
+{
+    let waits = 0 < count;
+    let give = both(waits, rows::none_zero(counter, n));
+    if give {
+        return Choice::Give;
+    }
+    let i = rows::idle_rows(left, n);
+    let m = lesser(n, 16);
+    if i < m {
+        return Choice::Hard(i + 1);
+    }
+    if waits { Choice::Back } else { Choice::Idle }
+}
+
+fn is_give(choice: Choice) -> bool
+    ensures { λ r. ⌜ r ≡ isGive choice ⌝ }
+{
+    match choice {
+        Choice::Give => true,
+        Choice::Hard(_) => false,
+        Choice::Back => false,
+        Choice::Idle => false
+    }
+}
+
+// A slot in the background and a lost one leave the counters.
+pub fn charges(choice: Choice, lost: bool) -> bool
+    ensures { λ r. ⌜ r ≡ (isGive choice && not lost) ⌝ }
+{
+    both(is_give(choice), !lost)
+}
+
+fn chosen_use(choice: Choice, name: u16) -> Use
+    ensures { λ r. ⌜ r ≡ chosenUse choice name ⌝ }
+{
+    match choice {
+        Choice::Give => Use::Given(name),
+        Choice::Hard(row) => Use::Hard(row),
+        Choice::Back => Use::Given(name),
+        Choice::Idle => Use::Empty,
+    }
+}
+
+pub fn used_for(lost: bool, choice: Choice, name: u16) -> Use
+    ensures { λ r. ⌜ r ≡ usedFor lost choice name ⌝ }
+{
+    if lost {
+        Use::Lost
+    } else {
+        chosen_use(choice, name)
+    }
+}
+
+pub fn row_served(used: Use) -> usize
+    ensures { λ r. ⌜ r ≡ rowServed used ⌝ }
+{
+    match used {
+        Use::Hard(row) => if row == 0 { 0 } else { row - 1 },
+        Use::Given(_) => 16,
+        Use::Empty => 16,
+        Use::Lost => 16,
+    }
+}
+
+pub fn is_hard(used: Use) -> bool
+    ensures { λ r. ⌜ r ≡ isHard used ⌝ }
+{
+    match used {
+        Use::Hard(_) => true,
+        Use::Given(_) => false,
+        Use::Empty => false,
+        Use::Lost => false
+    }
+}
+
+pub fn is_given(used: Use) -> bool
+    ensures { λ r. ⌜ r ≡ isGiven used ⌝ }
+{
+    match used {
+        Use::Hard(_) => false,
+        Use::Given(_) => true,
+        Use::Empty => false,
+        Use::Lost => false
+    }
+}
+
+pub fn is_empty(used: Use) -> bool
+    ensures { λ r. ⌜ r ≡ isEmpty used ⌝ }
+{
+    match used {
+        Use::Hard(_) => false,
+        Use::Given(_) => false,
+        Use::Empty => true,
+        Use::Lost => false
+    }
+}
+
+pub fn is_lost(used: Use) -> bool
+    ensures { λ r. ⌜ r ≡ isLost used ⌝ }
+{
+    match used {
+        Use::Hard(_) => false,
+        Use::Given(_) => false,
+        Use::Empty => false,
+        Use::Lost => true
+    }
+}
