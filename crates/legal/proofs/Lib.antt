@@ -1,3 +1,4 @@
 pub mod Kept
+pub mod Sound
 pub mod Tallies
 pub mod Outcomes

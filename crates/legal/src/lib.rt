@@ -1,16 +1,16 @@
 // When the figures of a state are legal, and which calls are refused.
 
 ghost use mathlib.Core.Path.{_≡_};
-ghost use mathlib.Core.Bool.{true, false, cond, _&&_};
-ghost use Prim.Native.Nat.{suc, _+_, _-_};
+ghost use mathlib.Core.Bool.{cond, _&&_, _||_};
+ghost use Prim.Native.Nat.{suc, _+_, _-_, min};
 ghost use lib.Dec.{eqb, ltb, leb};
-ghost use Rattle.table.specs.Verdicts.{taken};
+ghost use Rattle.seq.specs.Places.{at, every};
+ghost use Rattle.table.specs.Form.{inOrder, allZero, sound};
 ghost use Rattle.legal.specs.Kept.{rowKept, rowsKept, latesKept};
 ghost use Rattle.legal.specs.Legal.{lastSlot, tableLegal, clockLegal, figuresLegal};
 use seq::both;
 use seq::either;
 use seq::lesser;
-use table::Verdict;
 
 fn room(c: u16, d: u16) -> u16
     ensures { λ r. ⌜ r ≡ d - c ⌝ }
@@ -50,23 +50,96 @@ fn rows_kept<'a>(
     ok
 }
 
-// What a late count may be: at most the slots run, and 0 past the rows.
-fn most(i: usize, n: usize, ran: u64) -> u64
-    ensures { λ r. ⌜ r ≡ cond (ltb i n) ran 0 ⌝ }
+// Compared only where there are rows; the rest need only be zero, which is the quicker test of numbers this wide.
+fn lates_low(n: usize, ran: u64, late: &[u64; 16]) -> bool
+    ensures { λ r. ⌜ r ≡ every (min n 16) (λ i. leb (at (now (late .entry)) i) ran) ⌝ }
 {
-    if i < n { ran } else { 0 }
+    let m = lesser(n, 16);
+    let mut ok = true;
+    let mut i = 0;
+    while i < m {
+        ok = both(ok, late[i] <= ran);
+        i += 1;
+    }
+    ok
+}
+
+fn lates_zero(n: usize, late: &[u64; 16]) -> bool
+    ensures { λ r. ⌜ r ≡ every 16 (λ i. ltb i n || eqb (at (now (late .entry)) i) 0) ⌝ }
+{
+    let mut ok = true;
+    let mut i = lesser(n, 16);
+    while i < 16 {
+        ok = both(ok, late[i] == 0);
+        i += 1;
+    }
+    ok
 }
 
 fn lates_kept(n: usize, ran: u64, late: &[u64; 16]) -> bool
     ensures { λ r. ⌜ r ≡ latesKept n ran (now (late .entry)) ⌝ }
 {
+    let a = lates_low(n, ran, late);
+    let b = lates_zero(n, late);
+    both(a, b)
+}
+
+fn bound(used: bool, x: u16) -> u16
+    ensures { λ r. ⌜ r ≡ cond used x 0 ⌝ }
+{
+    if used { x } else { 0 }
+}
+
+// Past the rows the same bounds leave only zeros.
+fn row_sound(used: bool, c: u16, t: u16, d: u16) -> bool
+    ensures { λ r. ⌜ r ≡ cond used (inOrder c t d) (allZero c t d) ⌝ }
+{
+    both(
+        both(both(bound(used, 1) <= c, c <= d), d <= t),
+        t <= bound(used, 4096),
+    )
+}
+
+fn rows_sound<'a>(n: usize, c: &'a [u16; 16], t: &'a [u16; 16], d: &'a [u16; 16]) -> bool
+    ensures { λ r. ⌜ r ≡ every 16 (sound n (now (c .entry)) (now (t .entry)) (now (d .entry))) ⌝ }
+{
+    let m = lesser(n, 16) as u16;
     let mut ok = true;
+    let mut j: u16 = 0;
     let mut i = 0;
     while i < 16 {
-        ok = both(ok, late[i] <= most(i, n, ran));
+        ok = both(ok, row_sound(j < m, c[i], t[i], d[i]));
+        j += 1;
         i += 1;
     }
     ok
+}
+
+// No row's period is below the one before.
+fn periods_rise(n: usize, t: &[u16; 16]) -> bool
+    ensures { λ r. ⌜ r ≡ every 15 (λ i. leb n (i + 1) || leb (at (now (t .entry)) i) (at (now (t .entry)) (i + 1))) ⌝ }
+{
+    let m = lesser(n, 16) as u16;
+    let mut ok = true;
+    let mut j: u16 = 1;
+    let mut i = 0;
+    while i < 15 {
+        let b = i + 1;
+        ok = both(ok, either(m <= j, t[i] <= t[b]));
+        j += 1;
+        i += 1;
+    }
+    ok
+}
+
+// As `table::form`, but with no row to name and so no early way out.
+fn table_legal<'a>(n: usize, c: &'a [u16; 16], t: &'a [u16; 16], d: &'a [u16; 16]) -> bool
+    ensures { λ r. ⌜ r ≡ tableLegal n (now (c .entry)) (now (t .entry)) (now (d .entry)) ⌝ }
+{
+    let f = both(1 <= n, n <= 16);
+    let a = rows_sound(n, c, t, d);
+    let b = periods_rise(n, t);
+    both(both(f, a), b)
 }
 
 // One less, and 0 stays.
@@ -74,15 +147,6 @@ fn before(next: u64) -> u64
     ensures { λ r. ⌜ r ≡ next - 1 ⌝ }
 {
     if next == 0 { 0 } else { next - 1 }
-}
-
-fn is_taken(v: Verdict) -> bool
-    ensures { λ r. ⌜ r ≡ taken v true false ⌝ }
-{
-    match v {
-        Verdict::Taken => true,
-        Verdict::Refused(_, _) => false
-    }
 }
 
 // The table and the figures of its rows.
@@ -101,10 +165,10 @@ fn rows_legal<'a>(
         && rowsKept n (now (c .entry)) (now (d .entry)) (now (k .entry)) (now (left .entry)) (now (counter .entry))
         && latesKept n ran (now (late .entry))) ⌝ }
 {
-    let f = is_taken(table::form(n, c, t, d));
-    let a = rows_kept(n, c, d, k, left, counter);
-    let b = lates_kept(n, ran, late);
-    both(both(f, a), b)
+    let table = table_legal(n, c, t, d);
+    let rows = rows_kept(n, c, d, k, left, counter);
+    let lates = lates_kept(n, ran, late);
+    both(both(table, rows), lates)
 }
 
 // Taken off one by one, so that no sum can wrap.

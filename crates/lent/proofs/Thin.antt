@@ -3,6 +3,7 @@
 --     D          what `step` returns: a struct with a field of type T, then one of type N
 --     R          the type of x, plain data too: a number, or a struct where more than one number is told
 --     thin-fn    the call's code.        thin-meets    it meets its contract where `step` meets its own
+--     thin-one   no two outcomes meet that contract
 -- No field of T is named, so a new field changes nothing here. Assumes nothing.
 use mathlib.Core.Path.{_≡_, refl, ap}
 use Prim.Native.Nat.{ℕ}
@@ -41,6 +42,8 @@ use denote.Triple.Call.{calls-at}
 use denote.Triple.Clauses.{Ended, Clauses, closing, ensured, lasts}
 use denote.Triple.Walked.{says, Stays, stay-ref, stay-none, walkOf, AllGo, goes-none, goes-ref, Walks, ends-at, walked, walk-meets}
 use denote.Exit.{yes, unchanged}
+use Rattle.seq.specs.Outcomes.{OneOutcome}
+use Rattle.seq.proofs.Outcomes.{one-outcome}
 
 module _ (T : Declared) (TL : LL.Laws T) (TP : Plains (fields T)) (T-low : LL.Lowered T) (N : Declared) (NL : LL.Laws N) (NP : Plains (fields N)) (N-low : LL.Lowered N)
     (ν : Sym) (D : Type 0) (state : D → T .D) (answer : D → N .D) (one : (x y : D) → _≡_ {A = Denots (rows (field T ∷ field N ∷ []))} (T .to (state x), (N .to (answer x), tt)) (T .to (state y), (N .to (answer y), tt)) → x ≡ y)
@@ -86,12 +89,19 @@ module _ (T : Declared) (TL : LL.Laws T) (TP : Plains (fields T)) (T-low : LL.Lo
   }
 
   module _ (X-val : X → Val) (X-tells : Tells P (Is P) (λ x. X-val x ∷ [])) (step : T .D → X → D) where
+    -- what a thin call says of the lent state, the parameter, the answer and the state it leaves; it fixes the last two
+    abbrev pub thin-post : Unit {0} → T .D × X → N .D → T .D → Type 0
+    thin-post _ a r left = (r ≡ answer (step (a .0) (a .1))) × (left ≡ state (step (a .0) (a .1)))
+
+    pub thin-one : OneOutcome {X = λ _. N .D × T .D} thin-post (λ _ r left. (r, left))
+    thin-one = one-outcome thin-post _ (λ _ a. (answer (step (a .0) (a .1)), state (step (a .0) (a .1)))) (λ _ a r left p. rw (p .0, p .1))
+
     module _ {M : Type 1} (𝓤 : URA M) where
       abbrev pub step-clauses : Clauses 𝓤 step-ended
       step-clauses κs a = record { ghost = Unit {0}; requires = λ _. emp 𝓤; ensures = λ _ r _. fact 𝓤 (r ≡ step (a .0) (a .1 .0)) }
 
       abbrev pub thin-clauses : Clauses 𝓤 thin-ended
-      thin-clauses κs a = record { ghost = Unit {0}; requires = λ _. emp 𝓤; ensures = λ _ r e. fact 𝓤 ((r ≡ answer (step (now (a .0)) (a .1 .0))) × (now (e .0) ≡ state (step (now (a .0)) (a .1 .0)))) }
+      thin-clauses κs a = record { ghost = Unit {0}; requires = λ _. emp 𝓤; ensures = λ _ r e. fact 𝓤 (thin-post tt (now (a .0), a .1 .0) r (now (e .0))) }
 
     module _ {M : Type 1} (𝓤 : URA M) (H : Heap 𝓤) (A : Atoms 𝓤) where
       -- the callee's contract

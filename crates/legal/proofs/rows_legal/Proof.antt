@@ -3,11 +3,8 @@ use borrow.Author.Needs.{needs}
 use Rattle.legal.proofs.rows_legal.Statement.{statement}
 use Rattle.legal.proofs.rows_legal.Tie as tie
 
-form-requires : tie.Need-form-requires
-form-requires c κs = search needs
-
-is-taken-requires : tie.Need-is-taken-requires
-is-taken-requires c κs = search needs
+table-legal-requires : tie.Need-table-legal-requires
+table-legal-requires c κs = search needs
 
 rows-kept-requires : tie.Need-rows-kept-requires
 rows-kept-requires c κs = search needs
@@ -28,16 +25,14 @@ returns c =
       c .before .both .ensures,
       c .before .before .lates-kept .ensures,
       c .before .before .before .rows-kept .ensures,
-      c .before .before .before .before .is-taken .ensures,
-      c .before .before .before .before .before .form .ensures,
+      c .before .before .before .before .table-legal .ensures,
     )
 
 pub rows-legal-spec : {M : Type 1} → statement M
 rows-legal-spec =
     tie.close
     (tie.spec
-    form-requires
-    is-taken-requires
+    table-legal-requires
     rows-kept-requires
     lates-kept-requires
     both-requires

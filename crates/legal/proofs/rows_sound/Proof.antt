@@ -1,0 +1,100 @@
+-- `legal::rows_sound` meets its contract. Assumes nothing.
+use mathlib.Core.Path.{_≡_, refl}
+use mathlib.Core.Bool.{cond, true, _||_}
+use Prim.Native.Nat.{_+_, _-_, _≤_, min}
+use native.Mathlib.Omega.{arith}
+use lib.Dec.{eqb, ltb, leb}
+use borrow.Author.Tests.{lt-ltb}
+use Rattle.seq.specs.Places.{at, every}
+use Rattle.seq.proofs.Places.{every-more, every-true}
+use Rattle.table.specs.Form.{inOrder, allZero, sound}
+use Rattle.rows.specs.Rows.{rowsOf}
+use Rattle.legal.proofs.Kept.{below-rows}
+use borrow.Author.Needs.{needs}
+use Rattle.legal.proofs.rows_sound.Statement.{statement}
+use Rattle.legal.proofs.rows_sound.Tie as tie
+
+abbrev Inv-loop : tie.InvT-loop
+Inv-loop n c t d m ok₀ j₀ i₀ ok j i = (i ≤ 16) × (j ≡ i) × (m ≡ rowsOf n) × (ok ≡ every i (sound n c t d))
+
+abbrev μ-loop : tie.MeasureT-loop
+μ-loop n c t d m ok₀ j₀ i₀ ok j i = 16 - i
+
+lesser-requires : tie.Need-lesser-requires Inv-loop μ-loop
+lesser-requires c κs = search needs
+
+cast-m : tie.Need-cast-m Inv-loop μ-loop
+cast-m c = search needs
+
+loop-holds : tie.Need-loop-holds Inv-loop μ-loop
+unfolding every
+loop-holds c = (omega arith, refl, c .lesser .ensures, refl)
+
+mul-row-sound : tie.Need-mul-row-sound Inv-loop μ-loop
+mul-row-sound c = search needs
+
+element-copy-out-row-sound : tie.Need-element-copy-out-row-sound Inv-loop μ-loop
+element-copy-out-row-sound c = search needs
+
+mul-row-sound-2 : tie.Need-mul-row-sound-2 Inv-loop μ-loop
+mul-row-sound-2 c = search needs
+
+element-copy-out-row-sound-2 : tie.Need-element-copy-out-row-sound-2 Inv-loop μ-loop
+element-copy-out-row-sound-2 c = search needs
+
+mul-row-sound-3 : tie.Need-mul-row-sound-3 Inv-loop μ-loop
+mul-row-sound-3 c = search needs
+
+element-copy-out-row-sound-3 : tie.Need-element-copy-out-row-sound-3 Inv-loop μ-loop
+element-copy-out-row-sound-3 c = search needs
+
+row-sound-requires : tie.Need-row-sound-requires Inv-loop μ-loop
+row-sound-requires c κs = search needs
+
+both-requires : tie.Need-both-requires Inv-loop μ-loop
+both-requires c κs = search needs
+
+add-j : tie.Need-add-j Inv-loop μ-loop
+add-j c = search needs
+
+add-i : tie.Need-add-i Inv-loop μ-loop
+add-i c = search needs
+
+loop-less : tie.Need-loop-less Inv-loop μ-loop
+loop-less c = search needs
+
+loop-again : tie.Need-loop-again Inv-loop μ-loop
+unfolding sound
+loop-again c =
+    let l = c .before .before .before .before .before .before .loop in
+    let e = below-rows (l .i) (c .before .before .before .before .before .before .before .before .args .n) (omega arith) in
+    (omega arith, omega arith, l .inv .2, rw (c .both .ensures, c .before .row-sound .ensures, l .inv .1, l .inv .2, e, every-more (l .i), ← l .inv .3))
+
+returns : tie.Need-returns Inv-loop μ-loop
+returns c =
+    let l = c .before .loop in
+    let e : l .i ≡ 16 = omega arith in
+    rw e at (l .inv .3)
+
+pub rows-sound-spec : {M : Type 1} → statement M
+rows-sound-spec =
+    tie.close
+    (tie.spec
+    Inv-loop
+    μ-loop
+    lesser-requires
+    cast-m
+    loop-holds
+    mul-row-sound
+    element-copy-out-row-sound
+    mul-row-sound-2
+    element-copy-out-row-sound-2
+    mul-row-sound-3
+    element-copy-out-row-sound-3
+    row-sound-requires
+    both-requires
+    add-j
+    add-i
+    loop-less
+    loop-again
+    returns)
