@@ -6,10 +6,11 @@ use native.Mathlib.Omega.{arith}
 use lib.Dec.{eqb, leb}
 use borrow.Author.Tests.{leb-true, leb-false, eqb-true, eqb-false, le-leb, eq-eqb}
 use Rattle.seq.proofs.Tests.{both-true}
-use Rattle.legal.specs.Kept.{rowsKept, latesKept}
+use Rattle.kept.specs.Kept.{rowsKept, latesKept}
 use Rattle.late.proofs.Counts.{Within}
-use Rattle.legal.proofs.Kept.{lates-within}
-use Rattle.legal.specs.Legal.{lastSlot, tableLegal, figuresLegal}
+use Rattle.kept.proofs.Kept.{lates-within}
+use Rattle.legal.specs.Legal.{lastSlot, figuresLegal}
+use Rattle.kept.specs.Kept.{tableLegal}
 use Rattle.queue.specs.Queue.{proper}
 use Rattle.engine.specs.declared.State.{State}
 use Rattle.engine.specs.Legal.{ran, legal}

@@ -7,7 +7,7 @@ use Rattle.table.specs.Form.{sound, unsoundRow, fallingRow, countVerdict, rowsV
 use Rattle.rows.specs.Rows.{idle, reloaded, released, noneZero, charged, worked}
 use Rattle.marks.specs.Words.{dueWord, endWord, lateWord}
 use Rattle.late.specs.Late.{dropped, counted, total}
-use Rattle.legal.specs.Kept.{rowsKept, latesKept}
+use Rattle.kept.specs.Kept.{rowsKept, latesKept}
 use Rattle.queue.specs.Queue.{served, namesOf, sizesOf, waiting, proper}
 use Rattle.engine.specs.States.{with-figures}
 use Rattle.legal.specs.Legal.{figuresLegal}

@@ -1,4 +1,2 @@
-pub mod Kept
-pub mod Sound
 pub mod Tallies
 pub mod Outcomes

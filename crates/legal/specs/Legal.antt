@@ -1,20 +1,14 @@
 -- When the figures of a state are legal: refusal 11.
 use Prim.Native.Nat.{ℕ, suc, _+_, _-_}
 use mathlib.Core.List.{List}
-use mathlib.Core.Bool.{Bool, true, false, _&&_}
+use mathlib.Core.Bool.{Bool, _&&_}
 use lib.Dec.{eqb, leb}
-use Rattle.table.specs.Verdicts.{taken}
-use Rattle.table.specs.Form.{formVerdict}
 use Rattle.queue.specs.Queue.{proper}
-use Rattle.legal.specs.Kept.{rowsKept, latesKept}
+use Rattle.kept.specs.Kept.{tableLegal, rowsKept, latesKept}
 
 -- the last slot is 2 to the 48th
 abbrev pub lastSlot : ℕ
 lastSlot = 281474976710656
-
--- the table passes 4, 5 and 6
-abbrev pub tableLegal : ℕ → List ℕ → List ℕ → List ℕ → Bool
-tableLegal n c t d = taken (formVerdict n c t d) true false
 
 abbrev pub clockLegal : ℕ → Bool
 clockLegal next = leb 1 next && leb next (suc lastSlot)

@@ -21,9 +21,9 @@ use Rattle.allowance.specs.Test.{testOf}
 use Rattle.allowance.proofs.Tests.{taken-well, verdict-form, each-small, each-past}
 use Rattle.marks.specs.Words.{dueWord}
 use Rattle.rows.specs.Rows.{charged}
-use Rattle.legal.specs.Kept.{rowsKept, latesKept}
+use Rattle.kept.specs.Kept.{rowsKept, latesKept}
 use Rattle.marks.proofs.Points.{late-past}
-use Rattle.legal.proofs.Kept.{kept-bounds, bounds-kept, reloaded-kept, charged-kept, released-kept, worked-kept, dropped-kept, lates-say, lates-kept}
+use Rattle.kept.proofs.Kept.{kept-bounds, bounds-kept, reloaded-kept, charged-kept, released-kept, worked-kept, dropped-kept, lates-say, lates-kept}
 use Rattle.queue.specs.Queue.{Request, noRequest, asked, served, waiting, namesOf, sizesOf, placeProper, proper}
 use Rattle.queue.proofs.Laid.{Sized, Laid, laid-proper, laid-served, laid-asked, laid-none}
 use Rattle.engine.specs.declared.State.{State}

@@ -1,8 +1,8 @@
--- `legal::row_kept` meets its contract. Assumes nothing.
+-- `kept::row_kept` meets its contract. Assumes nothing.
 use borrow.Author.Needs.{needs}
-use Rattle.legal.proofs.Kept.{kept-alike}
-use Rattle.legal.proofs.row_kept.Statement.{statement}
-use Rattle.legal.proofs.row_kept.Tie as tie
+use Rattle.kept.proofs.Kept.{kept-alike}
+use Rattle.kept.proofs.row_kept.Statement.{statement}
+use Rattle.kept.proofs.row_kept.Tie as tie
 
 room-requires : tie.Need-room-requires
 room-requires c κs = search needs

@@ -11,8 +11,8 @@ use Rattle.seq.proofs.Tests.{both-true, either-true, either-false, true-false, 
 use Rattle.seq.proofs.Places.{every-at, every-true, lead-full, lead-all, lead-most, lead-stop}
 use Rattle.table.specs.Verdicts.{taken, refuse, _andThen_}
 use Rattle.table.specs.Form.{inOrder, allZero, sound, unsoundRow, rising, fallingRow, countVerdict, rowsVerdict, periodsVerdict, formVerdict}
-use Rattle.legal.specs.Kept.{latesKept}
-use Rattle.legal.specs.Legal.{tableLegal}
+use Rattle.kept.specs.Kept.{latesKept}
+use Rattle.kept.specs.Kept.{tableLegal}
 
 -- two tests are the same where each passes if the other does
 pub same-test : (a b : Bool) → (a ≡ true → b ≡ true) → (b ≡ true → a ≡ true) → a ≡ b

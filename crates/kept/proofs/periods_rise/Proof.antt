@@ -1,4 +1,4 @@
--- `legal::periods_rise` meets its contract. Assumes nothing.
+-- `kept::periods_rise` meets its contract. Assumes nothing.
 use mathlib.Core.Path.{_≡_, refl}
 use mathlib.Core.Bool.{cond, true, _||_}
 use Prim.Native.Nat.{_+_, _-_, _≤_, min}
@@ -9,10 +9,10 @@ use Rattle.seq.specs.Places.{at, every}
 use Rattle.seq.proofs.Places.{every-more, leb-alike}
 use Rattle.table.specs.Form.{inOrder, allZero, sound}
 use Rattle.rows.specs.Rows.{rowsOf}
-use Rattle.legal.proofs.Kept.{below-rows}
+use Rattle.kept.proofs.Kept.{below-rows}
 use borrow.Author.Needs.{needs}
-use Rattle.legal.proofs.periods_rise.Statement.{statement}
-use Rattle.legal.proofs.periods_rise.Tie as tie
+use Rattle.kept.proofs.periods_rise.Statement.{statement}
+use Rattle.kept.proofs.periods_rise.Tie as tie
 
 abbrev Inv-loop : tie.InvT-loop
 Inv-loop n t m ok₀ j₀ i₀ ok j i = (i ≤ 15) × (j ≡ i + 1) × (m ≡ rowsOf n) × (ok ≡ every i (λ a. leb n (a + 1) || leb (at t a) (at t (a + 1))))

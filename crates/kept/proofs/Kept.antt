@@ -13,7 +13,7 @@ use Rattle.seq.proofs.Places.{over-either, every-at, every-true}
 use Rattle.seq.proofs.Words.{flag-le}
 use Rattle.rows.specs.Rows.{rowsOf, idle, reloaded, released, charged, worked}
 use Rattle.late.specs.Late.{dropped, counted}
-use Rattle.legal.specs.Kept.{rowKept, rowsKept, latesKept}
+use Rattle.kept.specs.Kept.{rowKept, rowsKept, latesKept}
 use Rattle.late.proofs.Counts.{Within}
 
 low : (b : Bool) {x y z : ℕ} → x ≤ z → y ≤ z → cond b x y ≤ z

@@ -1,4 +1,4 @@
--- `legal::rows_sound` meets its contract. Assumes nothing.
+-- `kept::rows_sound` meets its contract. Assumes nothing.
 use mathlib.Core.Path.{_≡_, refl}
 use mathlib.Core.Bool.{cond, true, _||_}
 use Prim.Native.Nat.{_+_, _-_, _≤_, min}
@@ -9,10 +9,10 @@ use Rattle.seq.specs.Places.{at, every}
 use Rattle.seq.proofs.Places.{every-more, every-true}
 use Rattle.table.specs.Form.{inOrder, allZero, sound}
 use Rattle.rows.specs.Rows.{rowsOf}
-use Rattle.legal.proofs.Kept.{below-rows}
+use Rattle.kept.proofs.Kept.{below-rows}
 use borrow.Author.Needs.{needs}
-use Rattle.legal.proofs.rows_sound.Statement.{statement}
-use Rattle.legal.proofs.rows_sound.Tie as tie
+use Rattle.kept.proofs.rows_sound.Statement.{statement}
+use Rattle.kept.proofs.rows_sound.Tie as tie
 
 abbrev Inv-loop : tie.InvT-loop
 Inv-loop n c t d m ok₀ j₀ i₀ ok j i = (i ≤ 16) × (j ≡ i) × (m ≡ rowsOf n) × (ok ≡ every i (sound n c t d))

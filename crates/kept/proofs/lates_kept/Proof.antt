@@ -1,8 +1,8 @@
--- `legal::lates_kept` meets its contract. Assumes nothing.
-use Rattle.legal.proofs.Sound.{lates-test}
+-- `kept::lates_kept` meets its contract. Assumes nothing.
+use Rattle.kept.proofs.Sound.{lates-test}
 use borrow.Author.Needs.{needs}
-use Rattle.legal.proofs.lates_kept.Statement.{statement}
-use Rattle.legal.proofs.lates_kept.Tie as tie
+use Rattle.kept.proofs.lates_kept.Statement.{statement}
+use Rattle.kept.proofs.lates_kept.Tie as tie
 
 lates-low-requires : tie.Need-lates-low-requires
 lates-low-requires c κs = search needs

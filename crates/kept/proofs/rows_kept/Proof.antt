@@ -1,4 +1,4 @@
--- `legal::rows_kept` meets its contract. Assumes nothing.
+-- `kept::rows_kept` meets its contract. Assumes nothing.
 use mathlib.Core.Path.{_≡_, refl}
 use Prim.Native.Nat.{_-_, _≤_}
 use native.Mathlib.Omega.{arith}
@@ -7,10 +7,10 @@ use borrow.Author.Needs.{needs}
 use Rattle.seq.specs.Places.{at, every}
 use Rattle.seq.proofs.Places.{every-more}
 use Rattle.rows.specs.Rows.{rowsOf}
-use Rattle.legal.specs.Kept.{rowKept, rowsKept}
-use Rattle.legal.proofs.Kept.{below-rows}
-use Rattle.legal.proofs.rows_kept.Statement.{statement}
-use Rattle.legal.proofs.rows_kept.Tie as tie
+use Rattle.kept.specs.Kept.{rowKept, rowsKept}
+use Rattle.kept.proofs.Kept.{below-rows}
+use Rattle.kept.proofs.rows_kept.Statement.{statement}
+use Rattle.kept.proofs.rows_kept.Tie as tie
 
 abbrev Inv-loop : tie.InvT-loop
 Inv-loop n c d k left counter m ok₀ j₀ i₀ ok j i =

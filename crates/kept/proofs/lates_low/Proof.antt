@@ -1,4 +1,4 @@
--- `legal::lates_low` meets its contract. Assumes nothing.
+-- `kept::lates_low` meets its contract. Assumes nothing.
 use mathlib.Core.Path.{_≡_, refl}
 use mathlib.Core.Bool.{cond, true, _||_}
 use Prim.Native.Nat.{_+_, _-_, _≤_, min}
@@ -8,8 +8,8 @@ use borrow.Author.Tests.{lt-ltb}
 use Rattle.seq.specs.Places.{at, every}
 use Rattle.seq.proofs.Places.{every-more, every-true}
 use borrow.Author.Needs.{needs}
-use Rattle.legal.proofs.lates_low.Statement.{statement}
-use Rattle.legal.proofs.lates_low.Tie as tie
+use Rattle.kept.proofs.lates_low.Statement.{statement}
+use Rattle.kept.proofs.lates_low.Tie as tie
 
 abbrev Inv-loop : tie.InvT-loop
 Inv-loop n ran late m ok₀ i₀ ok i = (i ≤ m) × (m ≡ min n 16) × (ok ≡ every i (λ j. leb (at late j) ran))

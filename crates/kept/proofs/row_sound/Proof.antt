@@ -1,8 +1,8 @@
--- `legal::row_sound` meets its contract. Assumes nothing.
-use Rattle.legal.proofs.Sound.{sound-alike}
+-- `kept::row_sound` meets its contract. Assumes nothing.
+use Rattle.kept.proofs.Sound.{sound-alike}
 use borrow.Author.Needs.{needs}
-use Rattle.legal.proofs.row_sound.Statement.{statement}
-use Rattle.legal.proofs.row_sound.Tie as tie
+use Rattle.kept.proofs.row_sound.Statement.{statement}
+use Rattle.kept.proofs.row_sound.Tie as tie
 
 bound-requires : tie.Need-bound-requires
 bound-requires c κs = search needs

@@ -1,4 +1,4 @@
--- `legal::lates_zero` meets its contract. Assumes nothing.
+-- `kept::lates_zero` meets its contract. Assumes nothing.
 use mathlib.Core.Path.{_≡_, refl, sym}
 use mathlib.Core.Bool.{cond, true, _||_}
 use Prim.Native.Nat.{_+_, _-_, _≤_, min}
@@ -8,8 +8,8 @@ use borrow.Author.Tests.{lt-ltb, le-ltb}
 use Rattle.seq.specs.Places.{at, every}
 use Rattle.seq.proofs.Places.{every-more, every-true}
 use borrow.Author.Needs.{needs}
-use Rattle.legal.proofs.lates_zero.Statement.{statement}
-use Rattle.legal.proofs.lates_zero.Tie as tie
+use Rattle.kept.proofs.lates_zero.Statement.{statement}
+use Rattle.kept.proofs.lates_zero.Tie as tie
 
 abbrev Inv-loop : tie.InvT-loop
 Inv-loop n late ok₀ i₀ ok i = (min n 16 ≤ i) × (i ≤ 16) × (ok ≡ every i (λ j. ltb j n || eqb (at late j) 0))

@@ -1,9 +1,15 @@
--- The figures of a legal state's rows.
+-- The figures of a legal state's table and of its rows.
 use Prim.Native.Nat.{ℕ, _-_}
 use mathlib.Core.List.{List}
-use mathlib.Core.Bool.{Bool, cond, _&&_}
+use mathlib.Core.Bool.{Bool, true, false, cond, _&&_}
 use lib.Dec.{eqb, ltb, leb}
 use Rattle.seq.specs.Places.{at, every}
+use Rattle.table.specs.Verdicts.{taken}
+use Rattle.table.specs.Form.{formVerdict}
+
+-- the table passes 4, 5 and 6
+abbrev pub tableLegal : ℕ → List ℕ → List ℕ → List ℕ → Bool
+tableLegal n c t d = taken (formVerdict n c t d) true false
 
 -- allowance, counter and work left within their bounds, and zero past n
 abbrev pub rowKept : Bool → ℕ → ℕ → ℕ → ℕ → ℕ → Bool

@@ -1,8 +1,8 @@
--- `legal::table_legal` meets its contract. Assumes nothing.
-use Rattle.legal.proofs.Sound.{table-test}
+-- `kept::table_legal` meets its contract. Assumes nothing.
+use Rattle.kept.proofs.Sound.{table-test}
 use borrow.Author.Needs.{needs}
-use Rattle.legal.proofs.table_legal.Statement.{statement}
-use Rattle.legal.proofs.table_legal.Tie as tie
+use Rattle.kept.proofs.table_legal.Statement.{statement}
+use Rattle.kept.proofs.table_legal.Tie as tie
 
 both-requires : tie.Need-both-requires
 both-requires c κs = search needs
