@@ -3,8 +3,8 @@
 use crate::say;
 use crate::tables;
 use record::read;
-use record::write;
 use table::Table;
+use writer::write;
 
 fn reads_to(s: &[u8]) {
     let r = read(s);

@@ -198,7 +198,7 @@ pub extern "C" fn fjurke_read(s: &[u8]) -> Read
 pub extern "C" fn fjurke_write(x: Table, b: &mut [u8]) -> Wrote
     ensures { λ r. ⌜ (r ≡ wroteFace (writtenOf x (length (now (b .entry))))) × (now (b .exit) ≡ bufferOf x (now (b .entry))) ⌝ }
 {
-    let r = record::write(x, &mut *b);
+    let r = writer::write(x, &mut *b);
     let v = r.verdict;
     let number = table::number_of(v);
     let row = table::row_named(v);

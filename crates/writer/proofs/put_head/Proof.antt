@@ -1,11 +1,11 @@
--- `record::put_head` meets its contract. Assumes nothing.
+-- `writer::put_head` meets its contract. Assumes nothing.
 use mathlib.Core.Path.{ap, _∙_}
 use lib.ListN.{length, length-set}
 use lib.Seq.{length-sets}
 use native.Mathlib.Omega.{arith}
 use borrow.Author.Needs.{needs}
-use Rattle.record.proofs.put_head.Statement.{statement}
-use Rattle.record.proofs.put_head.Tie as tie
+use Rattle.writer.proofs.put_head.Statement.{statement}
+use Rattle.writer.proofs.put_head.Tie as tie
 
 slice-write-b : tie.Need-slice-write-b
 slice-write-b c = search needs

@@ -1,10 +1,10 @@
--- `record::put_row` meets its contract. Assumes nothing.
+-- `writer::put_row` meets its contract. Assumes nothing.
 use mathlib.Core.Path.{_≡_}
 use Prim.Native.Nat.{suc, _+_}
 use native.Mathlib.Omega.{arith}
 use borrow.Author.Needs.{needs}
-use Rattle.record.proofs.put_row.Statement.{statement}
-use Rattle.record.proofs.put_row.Tie as tie
+use Rattle.writer.proofs.put_row.Statement.{statement}
+use Rattle.writer.proofs.put_row.Tie as tie
 
 put-big-requires : tie.Need-put-big-requires
 put-big-requires c κs = search needs

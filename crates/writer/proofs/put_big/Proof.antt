@@ -1,8 +1,8 @@
--- `record::put_big` meets its contract. Assumes nothing.
+-- `writer::put_big` meets its contract. Assumes nothing.
 use borrow.Author.Needs.{needs}
 use native.Mathlib.Numerals.{add-one}
-use Rattle.record.proofs.put_big.Statement.{statement}
-use Rattle.record.proofs.put_big.Tie as tie
+use Rattle.writer.proofs.put_big.Statement.{statement}
+use Rattle.writer.proofs.put_big.Tie as tie
 
 cast-b : tie.Need-cast-b
 cast-b c = search needs

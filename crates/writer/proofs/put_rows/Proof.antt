@@ -1,14 +1,14 @@
--- `record::put_rows` meets its contract. Assumes nothing.
+-- `writer::put_rows` meets its contract. Assumes nothing.
 use mathlib.Core.Path.{_≡_, ap, _∙_}
 use lib.ListN.{length}
 use lib.Seq.{sets, length-sets}
 use Rattle.record.proofs.Record.{rows-more}
 use Rattle.record.specs.Record.{rowsBytes}
 use Prim.Native.Nat.{ℕ, _≤_, _-_, _+_}
 use native.Mathlib.Omega.{arith}
 use borrow.Author.Needs.{needs}
-use Rattle.record.proofs.put_rows.Statement.{statement}
-use Rattle.record.proofs.put_rows.Tie as tie
+use Rattle.writer.proofs.put_rows.Statement.{statement}
+use Rattle.writer.proofs.put_rows.Tie as tie
 
 abbrev Inv-loop : tie.InvT-loop
 Inv-loop b₀ x n i₀ b i = (i ≤ n) × (length b ≡ length b₀) × (b ≡ sets b₀ 4 (rowsBytes x i))
