@@ -1,3 +1,4 @@
 pub mod Legality
 pub mod Ran
 pub mod Outcomes
+pub mod Numbers

@@ -3,3 +3,4 @@ pub mod Legal
 pub mod Slot
 pub mod Calls
 pub mod Start
+pub mod Said

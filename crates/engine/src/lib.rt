@@ -2,9 +2,11 @@
 
 ghost use mathlib.Core.Path.{_≡_};
 ghost use lib.Count.{ones};
+ghost use Rattle.seq.specs.Places.{flag};
 ghost use Rattle.late.specs.Late.{up};
 ghost use Rattle.uses.specs.declared.Use.the-variants.{Empty};
 ghost use Rattle.engine.specs.Slot.{slotOf};
+ghost use Rattle.engine.specs.Said.{saidOf, casesOf, isOn, slotSaid};
 ghost use Rattle.engine.specs.Calls.{requestOf, lateTotalOf};
 ghost use Rattle.engine.specs.Start.{blank, noState, startOf};
 use table::Table;
@@ -51,6 +53,22 @@ pub struct Slotted {
     pub answer: Answer,
 }
 
+// The same in numbers only. used: 0 empty, 1 hard, 2 given, 3 lost. who: the row that got the slot, from 1 on, or the name of
+// the request.
+#[repr(C)]
+pub struct Said {
+    pub number: u8,
+    pub used: u8,
+    pub word: u16,
+    pub late: u32,
+    pub who: usize,
+}
+
+pub struct SlotSaid {
+    pub state: State,
+    pub answer: Said,
+}
+
 pub struct Requested {
     pub state: State,
     pub number: u8,
@@ -82,6 +100,40 @@ fn refused(u: u8) -> Answer
         word: 0,
         late: 0,
     }
+}
+
+fn in_numbers(a: Answer) -> Said
+    ensures { λ r. ⌜ r ≡ saidOf a ⌝ }
+{
+    let u = a.used;
+    let n = uses::use_number(u);
+    let w = uses::use_who(u);
+    Said {
+        number: a.number,
+        used: n,
+        word: a.word,
+        late: a.late,
+        who: w,
+    }
+}
+
+// `name` is that of the head request before the slot.
+fn in_cases(a: Said, name: u16) -> Answer
+    ensures { λ r. ⌜ r ≡ casesOf a name ⌝ }
+{
+    let used = uses::use_told(a.used, a.who, name);
+    Answer {
+        number: a.number,
+        used: used,
+        word: a.word,
+        late: a.late,
+    }
+}
+
+fn is_on(x: u8) -> bool
+    ensures { λ r. ⌜ r ≡ isOn x ⌝ }
+{
+    x != 0
 }
 
 fn tally(count: &mut u64, on: bool)
@@ -147,10 +199,11 @@ pub fn start(x: Table) -> Started
 }
 
 // One working copy; the steps of document 01 in their order, each on the arrays that it changes. Whether the slot is
-// lost is asked only after the choice.
-pub fn slot(s: State, lost: bool) -> Slotted
-    ensures { λ r. ⌜ r ≡ slotOf s lost ⌝ }
+// lost is asked only after the choice. It answers in numbers, so that a call over a lent state needs no copy more.
+pub fn slot_said(s: State, lost: u8) -> SlotSaid
+    ensures { λ r. ⌜ r ≡ slotSaid s lost ⌝ }
 {
+    let gone = is_on(lost);
     let mut r = s;
     let n = r.n;
     let next = r.next;
@@ -173,7 +226,7 @@ pub fn slot(s: State, lost: bool) -> Slotted
         r.lost,
     );
     let u = legal::slot_refusal(ok, next);
-    let mut answer = refused(u);
+    let mut answer = in_numbers(refused(u));
     if u == 0 {
         let ran = next - 1;
         let k = r.k;
@@ -184,11 +237,11 @@ pub fn slot(s: State, lost: bool) -> Slotted
         rows::release(&mut r.left, &c, marks.due);
         let choice = uses::choose(&r.left, &r.counter, r.count, n);
         let name = r.names[0];
-        let used = uses::used_for(lost, choice, name);
+        let used = uses::used_for(gone, choice, name);
         let on = uses::is_given(used);
         let size = r.sizes[0];
         let done = queue::is_last(on, size);
-        rows::charge(&mut r.counter, uses::charges(choice, lost));
+        rows::charge(&mut r.counter, uses::charges(choice, gone));
         rows::work(&mut r.left, uses::row_served(used));
         queue::lower(&mut r.sizes, on);
         queue::shift(&mut r.sizes, done);
@@ -203,10 +256,30 @@ pub fn slot(s: State, lost: bool) -> Slotted
         tally(&mut r.empty, uses::is_empty(used));
         tally(&mut r.lost, uses::is_lost(used));
         r.next = next + 1;
-        answer = answered(used, w);
+        answer = in_numbers(answered(used, w));
     }
-    Slotted {
+    SlotSaid {
         state: r,
+        answer: answer,
+    }
+}
+
+fn byte(on: bool) -> u8
+    ensures { λ r. ⌜ r ≡ flag on ⌝ }
+{
+    if on { 1 } else { 0 }
+}
+
+pub fn slot(s: State, lost: bool) -> Slotted
+    ensures { λ r. ⌜ r ≡ slotOf s lost ⌝ }
+{
+    let names = s.names;
+    let name = names[0];
+    let r = slot_said(s, byte(lost));
+    let answer = in_cases(r.answer, name);
+    let state = r.state;
+    Slotted {
+        state: state,
         answer: answer,
     }
 }

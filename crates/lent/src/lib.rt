@@ -7,22 +7,11 @@ ghost use Rattle.allowance.specs.Test.{testOf};
 ghost use Rattle.engine.specs.Slot.{slotOf};
 ghost use Rattle.engine.specs.Calls.{requestOf, lateTotalOf};
 ghost use Rattle.engine.specs.Start.{startOf};
-ghost use Rattle.lent.specs.Face.{useNumber, useWho, saidOf, isOn, slotSaid, toldFace, requestTold, readFace, wroteFace, triedFace, beganFace, sumFace};
-use engine::Answer;
+ghost use Rattle.engine.specs.Said.{saidOf, isOn};
+ghost use Rattle.lent.specs.Face.{toldFace, requestTold, readFace, wroteFace, triedFace, beganFace, sumFace};
+use engine::Said;
 use engine::State;
 use table::Table;
-use uses::Use;
-
-// number: 0, or the refusal. used: 0 empty, 1 hard, 2 given, 3 lost. word: bit 0 for row 1 late. late: how many rows are late.
-// who: the row that got the slot, from 1 on, or the name of the request.
-#[repr(C)]
-pub struct Said {
-    pub number: u8,
-    pub used: u8,
-    pub word: u16,
-    pub late: u32,
-    pub who: usize,
-}
 
 // number: 0, or the refusal. row: the row that it names, from 1 on; 0 for none.
 #[repr(C)]
@@ -74,75 +63,9 @@ pub struct Sum {
     pub total: u64,
 }
 
-pub struct SlotSaid {
-    pub state: State,
-    pub answer: Said,
-}
-
 pub struct RequestTold {
     pub state: State,
     pub answer: Told,
-}
-
-fn use_number(u: Use) -> u8
-    ensures { λ r. ⌜ r ≡ useNumber u ⌝ }
-{
-    match u {
-        Use::Hard(_) => 1,
-        Use::Given(_) => 2,
-        Use::Empty => 0,
-        Use::Lost => 3
-    }
-}
-
-fn wide(x: u16) -> usize
-    ensures { λ r. ⌜ r ≡ x ⌝ }
-{
-    x as usize
-}
-
-fn use_who(u: Use) -> usize
-    ensures { λ r. ⌜ r ≡ useWho u ⌝ }
-{
-    match u {
-        Use::Hard(row) => row,
-        Use::Given(name) => wide(name),
-        Use::Empty => 0,
-        Use::Lost => 0
-    }
-}
-
-fn in_numbers(a: Answer) -> Said
-    ensures { λ r. ⌜ r ≡ saidOf a ⌝ }
-{
-    let u = a.used;
-    let n = use_number(u);
-    let w = use_who(u);
-    Said {
-        number: a.number,
-        used: n,
-        word: a.word,
-        late: a.late,
-        who: w,
-    }
-}
-
-fn is_on(x: u8) -> bool
-    ensures { λ r. ⌜ r ≡ isOn x ⌝ }
-{
-    x != 0
-}
-
-fn slot_said(s: State, lost: u8) -> SlotSaid
-    ensures { λ r. ⌜ r ≡ slotSaid s lost ⌝ }
-{
-    let r = engine::slot(s, is_on(lost));
-    let answer = in_numbers(r.answer);
-    let after = r.state;
-    SlotSaid {
-        state: after,
-        answer: answer,
-    }
 }
 
 fn request_told(s: State, ask: Ask) -> RequestTold
@@ -164,7 +87,7 @@ fn request_told(s: State, ask: Ask) -> RequestTold
 pub extern "C" fn fjurke_slot(s: &mut State, lost: u8) -> Said
     ensures { λ r. ⌜ (r ≡ saidOf (slotOf (now (s .entry)) (isOn lost) .answer)) × (now (s .exit) ≡ slotOf (now (s .entry)) (isOn lost) .state) ⌝ }
 {
-    let r = slot_said(*s, lost);
+    let r = engine::slot_said(*s, lost);
     *s = r.state;
     r.answer
 }

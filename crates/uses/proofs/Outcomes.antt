@@ -9,6 +9,9 @@ use Rattle.uses.proofs.is_hard.Reads as is-hard
 use Rattle.uses.proofs.is_given.Reads as is-given
 use Rattle.uses.proofs.is_empty.Reads as is-empty
 use Rattle.uses.proofs.is_lost.Reads as is-lost
+use Rattle.uses.proofs.use_number.Reads as use-number
+use Rattle.uses.proofs.use_who.Reads as use-who
+use Rattle.uses.proofs.use_told.Reads as use-told
 
 choose-one : OneOutcome choose.Post (λ κs x s. x)
 choose-one = one-outcome choose.Post _ _ (λ κs a x s p. p)
@@ -33,3 +36,12 @@ is-empty-one = one-outcome is-empty.Post _ _ (λ κs a x s p. p)
 
 is-lost-one : OneOutcome is-lost.Post (λ κs x s. x)
 is-lost-one = one-outcome is-lost.Post _ _ (λ κs a x s p. p)
+
+use-number-one : OneOutcome use-number.Post (λ κs x s. x)
+use-number-one = one-outcome use-number.Post _ _ (λ κs a x s p. p)
+
+use-who-one : OneOutcome use-who.Post (λ κs x s. x)
+use-who-one = one-outcome use-who.Post _ _ (λ κs a x s p. p)
+
+use-told-one : OneOutcome use-told.Post (λ κs x s. x)
+use-told-one = one-outcome use-told.Post _ _ (λ κs a x s p. p)

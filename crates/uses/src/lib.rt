@@ -2,6 +2,7 @@
 
 ghost use mathlib.Core.Path.{_≡_};
 ghost use mathlib.Core.Bool.{_&&_, not};
+ghost use Rattle.uses.specs.Numbers.{useNumber, useWho, useTold};
 ghost use Rattle.uses.specs.Uses.{chosen, isGive, chosenUse, usedFor, rowServed, isHard, isGiven, isEmpty, isLost};
 use seq::both;
 use seq::lesser;
@@ -132,4 +133,45 @@ pub fn is_lost(used: Use) -> bool
         Use::Empty => false,
         Use::Lost => true
     }
+}
+
+pub fn use_number(u: Use) -> u8
+    ensures { λ r. ⌜ r ≡ useNumber u ⌝ }
+{
+    match u {
+        Use::Hard(_) => 1,
+        Use::Given(_) => 2,
+        Use::Empty => 0,
+        Use::Lost => 3
+    }
+}
+
+fn wide(x: u16) -> usize
+    ensures { λ r. ⌜ r ≡ x ⌝ }
+{
+    x as usize
+}
+
+pub fn use_who(u: Use) -> usize
+    ensures { λ r. ⌜ r ≡ useWho u ⌝ }
+{
+    match u {
+        Use::Hard(row) => row,
+        Use::Given(name) => wide(name),
+        Use::Empty => 0,
+        Use::Lost => 0
+    }
+}
+
+// The use that its number tells, of a row or of the head request.
+pub fn use_told(number: u8, row: usize, name: u16) -> Use
+    ensures { λ r. ⌜ r ≡ useTold number row name ⌝ }
+{
+    if number == 1 {
+        return Use::Hard(row);
+    }
+    if number == 2 {
+        return Use::Given(name);
+    }
+    if number == 3 { Use::Lost } else { Use::Empty }
 }

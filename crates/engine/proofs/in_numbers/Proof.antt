@@ -1,8 +1,8 @@
--- `lent::in_numbers` meets its contract. Assumes nothing.
+-- `engine::in_numbers` meets its contract. Assumes nothing.
 use Prim.Native.Nat.{_-_}
 use borrow.Author.Needs.{needs}
-use Rattle.lent.proofs.in_numbers.Statement.{statement}
-use Rattle.lent.proofs.in_numbers.Tie as tie
+use Rattle.engine.proofs.in_numbers.Statement.{statement}
+use Rattle.engine.proofs.in_numbers.Tie as tie
 
 use-number-requires : tie.Need-use-number-requires
 use-number-requires c κs = search needs
