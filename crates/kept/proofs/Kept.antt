@@ -20,17 +20,6 @@ low : (b : Bool) {x y z : ℕ} → x ≤ z → y ≤ z → cond b x y ≤ z
 low true g h = g
 low false g h = h
 
--- the bounds hold of zeros too
-none : (x : ℕ) → leb x 0 ≡ eqb x 0
-none zero = refl
-none (suc x) = leb·suc-zero x ∙ sym (eqb·suc-zero x)
-
-pub kept-alike : (used : Bool) (c d k left counter : ℕ) → leb k (d - c) && leb counter k && leb left c && (used || eqb k 0 && eqb left 0) ≡ rowKept used c d k left counter
-kept-alike true c d k left counter = and-true (leb k (d - c) && leb counter k && leb left c)
-kept-alike false c d zero zero counter = rw (le-leb 0 (d - c) (omega arith), none counter, le-leb 0 c (omega arith)) (and-true (eqb counter 0 && true))
-kept-alike false c d zero (suc left) counter = rw (eqb·suc-zero left, and-false (eqb counter 0)) (and-false (leb 0 (d - c) && leb counter 0 && leb (suc left) c))
-kept-alike false c d (suc k) left counter = rw (eqb·suc-zero k) (and-false (leb (suc k) (d - c) && leb counter (suc k) && leb left c))
-
 -- n counts as 16 where it is more
 pub below-rows : (i n : ℕ) → i < 16 → ltb i (rowsOf n) ≡ ltb i n
 below-rows i n h = split (ltb i n) refl

@@ -5,14 +5,14 @@ use mathlib.Core.Bool.{Bool, true, false, cond, not, _&&_, _||_}
 use Prim.Native.Nat.{ℕ, zero, suc, _+_, _-_, _≤_, _<_, min}
 use native.Mathlib.Omega.{arith}
 use lib.Dec.{eqb, ltb, leb}
+use lib.Bits.{bitOr, or-add-and, and-le-l, and-le-r}
 use borrow.Author.Tests.{not-true, eq-eqb, ne-eqb, lt-ltb, le-ltb, le-leb, lt-leb, ltb-true, ltb-false, leb-true, leb-false, eqb-true}
 use Rattle.seq.specs.Places.{at, every, lead}
 use Rattle.seq.proofs.Tests.{both-true, either-true, either-false, true-false, no-true}
 use Rattle.seq.proofs.Places.{every-at, every-true, lead-full, lead-all, lead-most, lead-stop}
 use Rattle.table.specs.Verdicts.{taken, refuse, _andThen_}
 use Rattle.table.specs.Form.{inOrder, allZero, sound, unsoundRow, rising, fallingRow, countVerdict, rowsVerdict, periodsVerdict, formVerdict}
-use Rattle.kept.specs.Kept.{latesKept}
-use Rattle.kept.specs.Kept.{tableLegal}
+use Rattle.kept.specs.Kept.{tableLegal, rowKept, rowsKept, kept, latesKept}
 
 -- two tests are the same where each passes if the other does
 pub same-test : (a b : Bool) → (a ≡ true → b ≡ true) → (b ≡ true → a ≡ true) → a ≡ b
@@ -65,38 +65,11 @@ count-test n = same-test _ _ there back
         let y : n ≤ 16 = leb-true _ _ (a .1) in
         rw (ne-eqb n 0 (λ z. absurd (omega (arith, z, x))), le-ltb 16 n y)
 
-rows-test : (p : ℕ → Bool) → not (ltb (lead 16 p) 16) ≡ every 16 p
-rows-test p = same-test _ _ (λ e. every-true 16 p (lead-all 16 p (ltb-false _ _ (not-true _ e)))) (λ e. rw (lead-full 16 p (every-at 16 p e)))
-
-module _ (n : ℕ) (t : List ℕ) where
-  abbrev rises : ℕ → Bool
-  rises i = leb n (i + 1) || leb (at t i) (at t (i + 1))
-
-  abbrev up : ℕ → Bool
-  up = rising t
-
-  periods-test : not (ltb (lead (min n 16) up) (min n 16)) ≡ every 15 rises
-  periods-test = same-test _ _ there back
-    where
-      next : (i : ℕ) → (b : Bool) → leb n (i + 1) ≡ b → ((j : ℕ) → j < min n 16 → up j ≡ true) → i < 15 → rises i ≡ true
-      next i true e f h = rw e
-      next i false e f h =
-          let z : i + 1 < n = leb-false _ _ e in
-          let y : i + 1 - 1 ≡ i = omega arith in
-          rw e (rw y at (f (i + 1) (omega arith)))
-
-      there : not (ltb (lead (min n 16) up) (min n 16)) ≡ true → every 15 rises ≡ true
-      there e = every-true 15 rises (λ i h. next i (leb n (i + 1)) refl (lead-all (min n 16) up (ltb-false _ _ (not-true _ e))) h)
-
-      each : ((i : ℕ) → i < 15 → rises i ≡ true) → (j : ℕ) → j < min n 16 → up j ≡ true
-      each f zero h = le-leb (at t 0) (at t 0) (omega arith)
-      each f (suc j) h =
-          let y : suc j - 1 ≡ j = omega arith in
-          let x : suc j ≡ j + 1 = omega arith in
-          rw (y, x) (rw (lt-leb n (j + 1) (omega arith)) at (f j (omega arith)))
-
-      back : every 15 rises ≡ true → not (ltb (lead (min n 16) up) (min n 16)) ≡ true
-      back e = rw (lead-full (min n 16) up (each (every-at 15 rises e)), le-ltb (min n 16) (min n 16) (omega arith))
+every-test : (m : ℕ) (p : ℕ → Bool) → not (ltb (lead m p) m) ≡ every m p
+every-test m p =
+    same-test _ _
+    (λ e. every-true m p (lead-all m p (ltb-false _ _ (not-true _ e))))
+    (λ e. rw (lead-full m p (every-at m p e), le-ltb m m (omega arith)))
 
 taken-thrice : (a b c : Bool) (r s : ℕ) → taken (refuse a 4 0 andThen refuse b 5 r andThen refuse c 6 s) true false ≡ not a && not b && not c
 taken-thrice true b c r s = refl
@@ -104,9 +77,75 @@ taken-thrice false true c r s = refl
 taken-thrice false false true r s = refl
 taken-thrice false false false r s = refl
 
-pub table-test : (n : ℕ) (c t d : List ℕ) → leb 1 n && leb n 16 && every 16 (sound n c t d) && every 15 (rises n t) ≡ tableLegal n c t d
+table-test : (n : ℕ) (c t d : List ℕ) → tableLegal n c t d ≡ leb 1 n && leb n 16 && every 16 (sound n c t d) && every (min n 16) (rising t)
 unfolding formVerdict countVerdict rowsVerdict periodsVerdict unsoundRow fallingRow
-table-test n c t d = rw (taken-thrice (eqb n 0 || ltb 16 n) (ltb (lead 16 (sound n c t d)) 16) (ltb (lead (min n 16) (rising t)) (min n 16)) _ _, count-test n, rows-test (sound n c t d), periods-test n t)
+table-test n c t d =
+    rw (← count-test n, ← every-test 16 (sound n c t d), ← every-test (min n 16) (rising t))
+    (taken-thrice (eqb n 0 || ltb 16 n) (ltb (lead 16 (sound n c t d)) 16) (ltb (lead (min n 16) (rising t)) (min n 16)) _ _)
+
+-- A row and its figures: past the rows the bounds leave only zeros
+pub kept-alike : (used : Bool) (c t d k left counter : ℕ)
+    → cond used (inOrder c t d) (allZero c t d) && (leb k (d - c) && leb counter k && leb left c) ≡ cond used (inOrder c t d) (allZero c t d) && rowKept used c d k left counter
+kept-alike true c t d k left counter = refl
+kept-alike false c t d k left counter = split (allZero c t d) refl
+  where
+    split : (b : Bool) → allZero c t d ≡ b → b && (leb k (d - c) && leb counter k && leb left c) ≡ b && rowKept false c d k left counter
+    split false q = refl
+    split true q =
+        let a = both-true (eqb c 0 && eqb t 0) (eqb d 0) q in
+        let y : d ≡ 0 = eqb-true d 0 (a .1) in
+        let x : c ≡ 0 = eqb-true c 0 (both-true (eqb c 0) (eqb t 0) (a .0) .0) in
+        same-test _ _ (there x y) (back x y)
+      where
+        there : c ≡ 0 → d ≡ 0 → leb k (d - c) && leb counter k && leb left c ≡ true → eqb k 0 && eqb counter 0 && eqb left 0 ≡ true
+        there x y e =
+            let a = both-true (leb k (d - c) && leb counter k) (leb left c) e in
+            let b = both-true (leb k (d - c)) (leb counter k) (a .0) in
+            let u : k ≤ d - c = leb-true k (d - c) (b .0) in
+            let v : counter ≤ k = leb-true counter k (b .1) in
+            let w : left ≤ c = leb-true left c (a .1) in
+            rw (eq-eqb k 0 (omega arith), eq-eqb counter 0 (omega arith), eq-eqb left 0 (omega arith))
+
+        back : c ≡ 0 → d ≡ 0 → eqb k 0 && eqb counter 0 && eqb left 0 ≡ true → leb k (d - c) && leb counter k && leb left c ≡ true
+        back x y e =
+            let a = both-true (eqb k 0 && eqb counter 0) (eqb left 0) e in
+            let b = both-true (eqb k 0) (eqb counter 0) (a .0) in
+            let u : k ≡ 0 = eqb-true k 0 (b .0) in
+            let v : counter ≡ 0 = eqb-true counter 0 (b .1) in
+            let w : left ≡ 0 = eqb-true left 0 (a .1) in
+            rw (le-leb k (d - c) (omega arith), le-leb counter k (omega arith), le-leb left c (omega arith))
+
+-- All of it
+module _ (n : ℕ) (c t d k left counter : List ℕ) where
+  abbrev figures : ℕ → Bool
+  figures i = rowKept (ltb i n) (at c i) (at d i) (at k i) (at left i) (at counter i)
+
+  abbrev asked : ℕ → Bool
+  asked = kept n c t d k left counter
+
+  abbrev quick : Bool
+  quick = leb 1 n && leb n 16 && every 16 asked && every (min n 16) (rising t)
+
+  abbrev slow : Bool
+  slow = leb 1 n && leb n 16 && every 16 (sound n c t d) && every (min n 16) (rising t) && every 16 figures
+
+  pub rows-test : quick ≡ tableLegal n c t d && rowsKept n c d k left counter
+  unfolding rowsKept
+  rows-test = rw (table-test n c t d) (same-test quick slow there back)
+    where
+      there : quick ≡ true → slow ≡ true
+      there e =
+          let a = both-true (leb 1 n && leb n 16 && every 16 asked) (every (min n 16) (rising t)) e in
+          let b = both-true (leb 1 n && leb n 16) (every 16 asked) (a .0) in
+          let each = every-at 16 asked (b .1) in
+          rw (b .0, every-true 16 (sound n c t d) (λ i h. both-true (sound n c t d i) (figures i) (each i h) .0), a .1, every-true 16 figures (λ i h. both-true (sound n c t d i) (figures i) (each i h) .1))
+
+      back : slow ≡ true → quick ≡ true
+      back e =
+          let a = both-true (leb 1 n && leb n 16 && every 16 (sound n c t d) && every (min n 16) (rising t)) (every 16 figures) e in
+          let b = both-true (leb 1 n && leb n 16 && every 16 (sound n c t d)) (every (min n 16) (rising t)) (a .0) in
+          let g = both-true (leb 1 n && leb n 16) (every 16 (sound n c t d)) (b .0) in
+          rw (g .0, every-true 16 asked (λ i h. rw (every-at 16 (sound n c t d) (g .1) i h, every-at 16 figures (a .1) i h)), b .1)
 
 -- Late counts: low where there are rows, zero past them
 module _ (n ran : ℕ) (late : List ℕ) where
@@ -145,3 +184,22 @@ module _ (n ran : ℕ) (late : List ℕ) where
 
       back : every 16 keptCount ≡ true → every (min n 16) lowCount && every 16 zeroPast ≡ true
       back e = rw (every-true (min n 16) lowCount (low e), every-true 16 zeroPast (λ i h. zeros i (ltb i n) refl (every-at 16 keptCount e i h)))
+
+-- numbers joined by or are 0 only where each is
+pub or-none : (a b : ℕ) → eqb (bitOr a b) 0 ≡ eqb a 0 && eqb b 0
+or-none a b = same-test _ _ there back
+  where
+    there : eqb (bitOr a b) 0 ≡ true → eqb a 0 && eqb b 0 ≡ true
+    there e =
+        let z : bitOr a b ≡ 0 = eqb-true (bitOr a b) 0 e in
+        let y = or-add-and a b in
+        let x = and-le-l a b in
+        let w = and-le-r a b in
+        rw (eq-eqb a 0 (omega (arith, z, y, x, w)), eq-eqb b 0 (omega (arith, z, y, x, w)))
+
+    back : eqb a 0 && eqb b 0 ≡ true → eqb (bitOr a b) 0 ≡ true
+    back e =
+        let q = both-true (eqb a 0) (eqb b 0) e in
+        let x : a ≡ 0 = eqb-true a 0 (q .0) in
+        let y : b ≡ 0 = eqb-true b 0 (q .1) in
+        rw (x, y)

@@ -5,7 +5,7 @@ use mathlib.Core.Bool.{Bool, true, false, cond, _&&_}
 use lib.Dec.{eqb, ltb, leb}
 use Rattle.seq.specs.Places.{at, every}
 use Rattle.table.specs.Verdicts.{taken}
-use Rattle.table.specs.Form.{formVerdict}
+use Rattle.table.specs.Form.{sound, formVerdict}
 
 -- the table passes 4, 5 and 6
 abbrev pub tableLegal : ℕ → List ℕ → List ℕ → List ℕ → Bool
@@ -18,6 +18,10 @@ rowKept used c d k left counter =
 
 unfoldable pub rowsKept : ℕ → List ℕ → List ℕ → List ℕ → List ℕ → List ℕ → Bool
 rowsKept n c d k left counter = every 16 (λ i. rowKept (ltb i n) (at c i) (at d i) (at k i) (at left i) (at counter i))
+
+-- what is asked of row i of a table and of its figures
+abbrev pub kept : ℕ → (c t d k left counter : List ℕ) → ℕ → Bool
+kept n c t d k left counter i = sound n c t d i && rowKept (ltb i n) (at c i) (at d i) (at k i) (at left i) (at counter i)
 
 -- late counts at most the slots run, and zero past n
 unfoldable pub latesKept : ℕ → ℕ → List ℕ → Bool

@@ -15,28 +15,6 @@ fn before(next: u64) -> u64
     if next == 0 { 0 } else { next - 1 }
 }
 
-// The table and the figures of its rows.
-fn rows_legal<'a>(
-    n: usize,
-    ran: u64,
-    c: &'a [u16; 16],
-    t: &'a [u16; 16],
-    d: &'a [u16; 16],
-    k: &'a [u16; 16],
-    left: &'a [u16; 16],
-    counter: &'a [u16; 16],
-    late: &'a [u64; 16],
-) -> bool
-    ensures { λ r. ⌜ r ≡ (tableLegal n (now (c .entry)) (now (t .entry)) (now (d .entry))
-        && rowsKept n (now (c .entry)) (now (d .entry)) (now (k .entry)) (now (left .entry)) (now (counter .entry))
-        && latesKept n ran (now (late .entry))) ⌝ }
-{
-    let table = kept::table_legal(n, c, t, d);
-    let rows = kept::rows_kept(n, c, d, k, left, counter);
-    let lates = kept::lates_kept(n, ran, late);
-    both(both(table, rows), lates)
-}
-
 // Taken off one by one, so that no sum can wrap.
 fn tallies_legal(ran: u64, hard: u64, given: u64, empty: u64, lost: u64) -> bool
     ensures { λ r. ⌜ r ≡ eqb (hard + given + empty + lost) ran ⌝ }
@@ -83,10 +61,11 @@ pub fn is_legal<'a>(
     ensures { λ r. ⌜ r ≡ figuresLegal n next (now (c .entry)) (now (t .entry)) (now (d .entry)) (now (k .entry)) (now (left .entry)) (now (counter .entry)) (now (late .entry)) count (now (names .entry)) (now (sizes .entry)) hard given empty lost ⌝ }
 {
     let ran = before(next);
-    let a = rows_legal(n, ran, c, t, d, k, left, counter, late);
+    let rows = kept::rows_legal(n, c, t, d, k, left, counter);
+    let lates = kept::lates_kept(n, ran, late);
     let b = tallies_legal(ran, hard, given, empty, lost);
     let q = queue::is_proper(count, names, sizes);
-    both(both(both(a, b), clock_legal(next)), q)
+    both(both(both(both(rows, lates), b), clock_legal(next)), q)
 }
 
 // 11, 10 or 0.

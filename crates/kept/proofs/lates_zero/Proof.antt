@@ -1,21 +1,22 @@
 -- `kept::lates_zero` meets its contract. Assumes nothing.
-use mathlib.Core.Path.{_≡_, refl, sym}
-use mathlib.Core.Bool.{cond, true, _||_}
-use Prim.Native.Nat.{_+_, _-_, _≤_, min}
+use mathlib.Core.Path.{_≡_, refl, sym, _∙_}
+use mathlib.Core.Bool.{Bool, cond, true, false, _&&_, _||_}
+use Prim.Native.Nat.{ℕ, _+_, _-_, _≤_, _<_, min}
 use native.Mathlib.Omega.{arith}
 use lib.Dec.{eqb, ltb, leb}
-use borrow.Author.Tests.{lt-ltb, le-ltb}
+use borrow.Author.Tests.{lt-ltb, le-ltb, le-leb, lt-leb}
 use Rattle.seq.specs.Places.{at, every}
-use Rattle.seq.proofs.Places.{every-more, every-true}
+use Rattle.seq.proofs.Places.{every-more, every-true, every-not, every-at}
+use Rattle.kept.proofs.Sound.{or-none}
 use borrow.Author.Needs.{needs}
 use Rattle.kept.proofs.lates_zero.Statement.{statement}
 use Rattle.kept.proofs.lates_zero.Tie as tie
 
 abbrev Inv-loop : tie.InvT-loop
-Inv-loop n late ok₀ i₀ ok i = (min n 16 ≤ i) × (i ≤ 16) × (ok ≡ every i (λ j. ltb j n || eqb (at late j) 0))
+Inv-loop n late rest₀ i₀ rest i = (min n 16 ≤ i) × (i ≤ 16) × (eqb rest 0 ≡ every i (λ j. ltb j n || eqb (at late j) 0))
 
 abbrev μ-loop : tie.MeasureT-loop
-μ-loop n late ok₀ i₀ ok i = 16 - i
+μ-loop n late rest₀ i₀ rest i = 16 - i
 
 lesser-requires : tie.Need-lesser-requires Inv-loop μ-loop
 lesser-requires c κs = search needs
@@ -25,14 +26,11 @@ loop-holds c =
     let n = c .before .args .n in
     (omega (arith, c .lesser .ensures), omega (arith, c .lesser .ensures), sym (every-true (c .lesser .result) _ (λ j h. rw (lt-ltb j n (omega (arith, c .lesser .ensures))))))
 
-mul-both : tie.Need-mul-both Inv-loop μ-loop
-mul-both c = search needs
+mul-rest : tie.Need-mul-rest Inv-loop μ-loop
+mul-rest c = search needs
 
-element-copy-out-both : tie.Need-element-copy-out-both Inv-loop μ-loop
-element-copy-out-both c = search needs
-
-both-requires : tie.Need-both-requires Inv-loop μ-loop
-both-requires c κs = search needs
+element-copy-out-rest : tie.Need-element-copy-out-rest Inv-loop μ-loop
+element-copy-out-rest c = search needs
 
 add-i : tie.Need-add-i Inv-loop μ-loop
 add-i c = search needs
@@ -42,9 +40,9 @@ loop-less c = search needs
 
 loop-again : tie.Need-loop-again Inv-loop μ-loop
 loop-again c =
-    let l = c .before .before .before .loop in
-    let n = c .before .before .before .before .before .args .n in
-    (omega arith, omega arith, rw (c .both .ensures, every-more (l .i), le-ltb (l .i) n (omega arith), ← l .inv .2))
+    let l = c .before .before .loop in
+    let n = c .before .before .before .before .args .n in
+    (omega arith, omega arith, rw (or-none (l .rest) _, every-more (l .i), le-ltb (l .i) n (omega arith), ← l .inv .2))
 
 returns : tie.Need-returns Inv-loop μ-loop
 returns c =
@@ -60,9 +58,8 @@ lates-zero-spec =
     μ-loop
     lesser-requires
     loop-holds
-    mul-both
-    element-copy-out-both
-    both-requires
+    mul-rest
+    element-copy-out-rest
     add-i
     loop-less
     loop-again

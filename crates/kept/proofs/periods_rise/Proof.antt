@@ -1,58 +1,51 @@
 -- `kept::periods_rise` meets its contract. Assumes nothing.
-use mathlib.Core.Path.{_≡_, refl}
-use mathlib.Core.Bool.{cond, true, _||_}
-use Prim.Native.Nat.{_+_, _-_, _≤_, min}
+use mathlib.Core.Path.{_≡_, refl, sym, _∙_}
+use mathlib.Core.Bool.{Bool, cond, true, false, _&&_, _||_}
+use Prim.Native.Nat.{ℕ, _+_, _-_, _≤_, _<_, min}
 use native.Mathlib.Omega.{arith}
 use lib.Dec.{eqb, ltb, leb}
-use borrow.Author.Tests.{lt-ltb}
+use borrow.Author.Tests.{lt-ltb, le-ltb, le-leb, lt-leb}
 use Rattle.seq.specs.Places.{at, every}
-use Rattle.seq.proofs.Places.{every-more, leb-alike}
-use Rattle.table.specs.Form.{inOrder, allZero, sound}
-use Rattle.rows.specs.Rows.{rowsOf}
-use Rattle.kept.proofs.Kept.{below-rows}
+use Rattle.seq.proofs.Places.{every-more, every-true, every-not, every-at}
+use Rattle.table.specs.Form.{rising}
 use borrow.Author.Needs.{needs}
 use Rattle.kept.proofs.periods_rise.Statement.{statement}
 use Rattle.kept.proofs.periods_rise.Tie as tie
 
 abbrev Inv-loop : tie.InvT-loop
-Inv-loop n t m ok₀ j₀ i₀ ok j i = (i ≤ 15) × (j ≡ i + 1) × (m ≡ rowsOf n) × (ok ≡ every i (λ a. leb n (a + 1) || leb (at t a) (at t (a + 1))))
+Inv-loop n t m ok₀ i₀ ok i = (i ≤ m) × (min m 1 ≤ i) × (m ≡ min n 16) × (ok ≡ every i (rising t))
 
 abbrev μ-loop : tie.MeasureT-loop
-μ-loop n t m ok₀ j₀ i₀ ok j i = 15 - i
+μ-loop n t m ok₀ i₀ ok i = m - i
 
 lesser-requires : tie.Need-lesser-requires Inv-loop μ-loop
 lesser-requires c κs = search needs
 
-cast-m : tie.Need-cast-m Inv-loop μ-loop
-cast-m c = search needs
+lesser-requires-2 : tie.Need-lesser-requires-2 Inv-loop μ-loop
+lesser-requires-2 c κs = search needs
 
 loop-holds : tie.Need-loop-holds Inv-loop μ-loop
-unfolding every
-loop-holds c = (omega arith, refl, c .lesser .ensures, refl)
+loop-holds c =
+    let t = c .before .before .args .t .now in
+    (omega (arith, c .lesser2 .ensures), omega (arith, c .lesser2 .ensures), c .before .lesser .ensures, sym (every-true (c .lesser2 .result) _ (λ j h. let z : j ≡ 0 = omega (arith, c .lesser2 .ensures, h) in rw z (le-leb (at t 0) (at t 0) (omega arith)))))
 
-add-b : tie.Need-add-b Inv-loop μ-loop
-add-b c = search needs
+sub-b : tie.Need-sub-b Inv-loop μ-loop
+sub-b c = search needs
 
-mul-either : tie.Need-mul-either Inv-loop μ-loop
-mul-either c = search needs
+mul-both : tie.Need-mul-both Inv-loop μ-loop
+mul-both c = search needs
 
-element-copy-out-either : tie.Need-element-copy-out-either Inv-loop μ-loop
-element-copy-out-either c = search needs
+element-copy-out-both : tie.Need-element-copy-out-both Inv-loop μ-loop
+element-copy-out-both c = search needs
 
-mul-either-2 : tie.Need-mul-either-2 Inv-loop μ-loop
-mul-either-2 c = search needs
+mul-both-2 : tie.Need-mul-both-2 Inv-loop μ-loop
+mul-both-2 c = search needs
 
-element-copy-out-either-2 : tie.Need-element-copy-out-either-2 Inv-loop μ-loop
-element-copy-out-either-2 c = search needs
-
-either-requires : tie.Need-either-requires Inv-loop μ-loop
-either-requires c κs = search needs
+element-copy-out-both-2 : tie.Need-element-copy-out-both-2 Inv-loop μ-loop
+element-copy-out-both-2 c = search needs
 
 both-requires : tie.Need-both-requires Inv-loop μ-loop
 both-requires c κs = search needs
-
-add-j : tie.Need-add-j Inv-loop μ-loop
-add-j c = search needs
 
 add-i : tie.Need-add-i Inv-loop μ-loop
 add-i c = search needs
@@ -62,15 +55,13 @@ loop-less c = search needs
 
 loop-again : tie.Need-loop-again Inv-loop μ-loop
 loop-again c =
-    let l = c .before .before .before .before .before .loop in
-    let n = c .before .before .before .before .before .before .before .args .n in
-    let e : leb (rowsOf n) (l .i + 1) ≡ leb n (l .i + 1) = leb-alike (rowsOf n) (l .i + 1) n (l .i + 1) (λ h. omega arith) (λ h. omega arith) in
-    (omega arith, omega arith, l .inv .2, rw (c .both .ensures, c .before .either .ensures, l .inv .1, l .inv .2, e, every-more (l .i), ← l .inv .3))
+    let l = c .before .before .before .before .loop in
+    (omega arith, omega arith, l .inv .2, rw (c .both .ensures, every-more (l .i), ← l .inv .3))
 
 returns : tie.Need-returns Inv-loop μ-loop
 returns c =
     let l = c .before .loop in
-    let e : l .i ≡ 15 = omega arith in
+    let e : l .i ≡ min (c .before .before .before .before .args .n) 16 = omega (arith, l .inv .2) in
     rw e at (l .inv .3)
 
 pub periods-rise-spec : {M : Type 1} → statement M
@@ -80,16 +71,14 @@ periods-rise-spec =
     Inv-loop
     μ-loop
     lesser-requires
-    cast-m
+    lesser-requires-2
     loop-holds
-    add-b
-    mul-either
-    element-copy-out-either
-    mul-either-2
-    element-copy-out-either-2
-    either-requires
+    sub-b
+    mul-both
+    element-copy-out-both
+    mul-both-2
+    element-copy-out-both-2
     both-requires
-    add-j
     add-i
     loop-less
     loop-again

@@ -9,6 +9,9 @@ before-requires c κs = tt
 rows-legal-requires : tie.Need-rows-legal-requires
 rows-legal-requires c κs = tt
 
+lates-kept-requires : tie.Need-lates-kept-requires
+lates-kept-requires c κs = tt
+
 tallies-legal-requires : tie.Need-tallies-legal-requires
 tallies-legal-requires c κs = tt
 
@@ -27,6 +30,9 @@ both-requires-2 c κs = tt
 both-requires-3 : tie.Need-both-requires-3
 both-requires-3 c κs = tt
 
+both-requires-4 : tie.Need-both-requires-4
+both-requires-4 c κs = tt
+
 returns : tie.Need-returns
 unfolding figuresLegal
 returns c =
@@ -36,7 +42,9 @@ returns c =
     let x4 = x3 .before in
     let x5 = x4 .before in
     let x6 = x5 .before in
-    rw (c .both3 .ensures, x1 .both2 .ensures, x2 .clock-legal .ensures, x3 .both .ensures, x4 .is-proper .ensures, x5 .tallies-legal .ensures, x6 .rows-legal .ensures, x6 .before .before2 .ensures)
+    let x7 = x6 .before in
+    let x8 = x7 .before in
+    rw (c .both4 .ensures, x1 .both3 .ensures, x2 .clock-legal .ensures, x3 .both2 .ensures, x4 .both .ensures, x5 .is-proper .ensures, x6 .tallies-legal .ensures, x7 .lates-kept .ensures, x8 .rows-legal .ensures, x8 .before .before2 .ensures)
 
 pub is-legal-spec : {M : Type 1} → statement M
 is-legal-spec =
@@ -44,10 +52,12 @@ is-legal-spec =
     (tie.spec
     before-requires
     rows-legal-requires
+    lates-kept-requires
     tallies-legal-requires
     is-proper-requires
     both-requires
-    clock-legal-requires
     both-requires-2
+    clock-legal-requires
     both-requires-3
+    both-requires-4
     returns)
