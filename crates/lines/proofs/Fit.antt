@@ -8,19 +8,19 @@ use lib.ListN.{length, length-append}
 use lib.Seq.{sets}
 use Rattle.text.specs.Text.{lineOf, said, withText, behind}
 use Rattle.lines.specs.Lines.{useText, slotLine, refusedLine, badLine, totalLine, longLine}
-use Rattle.lines.specs.declared.Shown.{Shown}
-use Rattle.lines.specs.declared.Shown.the-variants.{Hard, Given, Empty, Lost}
+use Rattle.uses.specs.declared.Use.{Use}
+use Rattle.uses.specs.declared.Use.the-variants.{Hard, Given, Empty, Lost}
 use Rattle.text.proofs.Numbers.{decimal-twenty}
 use Rattle.text.proofs.Laid.{line-said}
 
 -- the number behind the letter
-abbrev pub shownNumber : Shown → ℕ
-shownNumber (Hard row) = row
-shownNumber (Given name) = name
-shownNumber Empty = 0
-shownNumber Lost = 0
+abbrev pub useNumber : Use → ℕ
+useNumber (Hard row) = row
+useNumber (Given name) = name
+useNumber Empty = 0
+useNumber Lost = 0
 
-use-fits : (used : Shown) → shownNumber used < 2 ^ 64 → length (useText used) ≤ 21
+use-fits : (used : Use) → useNumber used < 2 ^ 64 → length (useText used) ≤ 21
 unfolding useText
 use-fits (Hard row) h = omega (arith, decimal-twenty row h)
 use-fits (Given name) h = omega (arith, decimal-twenty name h)
@@ -28,7 +28,7 @@ use-fits Empty h = omega arith
 use-fits Lost h = omega arith
 
 -- Each line, at all numbers of 64 bits
-pub slot-fits : (slot : ℕ) (used : Shown) (word : ℕ) → slot < 2 ^ 64 → shownNumber used < 2 ^ 64 → word < 2 ^ 64 → length (slotLine slot used word) ≤ 128
+pub slot-fits : (slot : ℕ) (used : Use) (word : ℕ) → slot < 2 ^ 64 → useNumber used < 2 ^ 64 → word < 2 ^ 64 → length (slotLine slot used word) ≤ 128
 slot-fits slot used word h g f =
     simp length-append (omega (arith, decimal-twenty slot h, use-fits used g, decimal-twenty word f))
 

@@ -2,7 +2,7 @@
 use mathlib.Core.Path.{_≡_, refl}
 use Rattle.text.specs.Text.{text, digitsThen, decimal}
 use Rattle.lines.specs.Lines.{useText, slotLine, refusedLine, badLine, totalLine, longLine}
-use Rattle.lines.specs.declared.Shown.the-variants.{Hard, Given, Empty, Lost}
+use Rattle.uses.specs.declared.Use.the-variants.{Hard, Given, Empty, Lost}
 
 first-slot : slotLine 1 (Hard 1) 0 ≡ text "1 H1 0\n"
 unfolding decimal digitsThen useText

@@ -2,21 +2,21 @@
 use Prim.Native.Nat.{ℕ}
 use mathlib.Core.List.{List, _++_}
 use Rattle.text.specs.Text.{text, decimal}
-use Rattle.lines.specs.declared.Shown.{Shown}
-use Rattle.lines.specs.declared.Shown.the-variants.{Hard, Given, Empty, Lost}
+use Rattle.uses.specs.declared.Use.{Use}
+use Rattle.uses.specs.declared.Use.the-variants.{Hard, Given, Empty, Lost}
 
 abbrev pub spaced : ℕ → List ℕ
 spaced x = text " " ++ decimal x
 
 -- H and the row, N and the name, E, L
-unfoldable pub useText : Shown → List ℕ
+unfoldable pub useText : Use → List ℕ
 useText (Hard row) = text "H" ++ decimal row
 useText (Given name) = text "N" ++ decimal name
 useText Empty = text "E"
 useText Lost = text "L"
 
 -- The lines
-abbrev pub slotLine : ℕ → Shown → ℕ → List ℕ
+abbrev pub slotLine : ℕ → Use → ℕ → List ℕ
 slotLine slot used word = decimal slot ++ text " " ++ useText used ++ spaced word ++ text "\n"
 
 abbrev pub refusedLine : ℕ → ℕ → List ℕ

@@ -7,14 +7,7 @@ use text::Line;
 use text::blank;
 use text::put;
 use text::put_number;
-
-// What a slot was used for.
-pub enum Shown {
-    Hard(usize),
-    Given(u16),
-    Empty,
-    Lost,
-}
+use uses::Use;
 
 fn put_spaced(line: Line, x: u64) -> Line
     ensures { λ r. ⌜ r ≡ extended line (spaced x) ⌝ }
@@ -22,18 +15,18 @@ fn put_spaced(line: Line, x: u64) -> Line
     put_number(put(line, b" "), x)
 }
 
-fn put_use(line: Line, used: Shown) -> Line
+fn put_use(line: Line, used: Use) -> Line
     ensures { λ r. ⌜ r ≡ extended line (useText used) ⌝ }
 {
     match used {
-        Shown::Hard(row) => put_number(put(line, b"H"), row as u64),
-        Shown::Given(name) => put_number(put(line, b"N"), name as u64),
-        Shown::Empty => put(line, b"E"),
-        Shown::Lost => put(line, b"L"),
+        Use::Hard(row) => put_number(put(line, b"H"), row as u64),
+        Use::Given(name) => put_number(put(line, b"N"), name as u64),
+        Use::Empty => put(line, b"E"),
+        Use::Lost => put(line, b"L"),
     }
 }
 
-pub fn slot_line(slot: u64, used: Shown, word: u16) -> Line
+pub fn slot_line(slot: u64, used: Use, word: u16) -> Line
     ensures { λ r. ⌜ r ≡ lineOf (slotLine slot used word) ⌝ }
 {
     let a = put(put_number(blank(), slot), b" ");

@@ -1,4 +1,4 @@
--- Words with a bit for each row, bit i for the row at place i: what document 01 says of slot t - 1 = m.
+-- Words with a bit for each row, bit i for the row at place i.
 use Prim.Native.Nat.{ℕ, _-_, _%_}
 use mathlib.Core.List.{List}
 use mathlib.Core.Bool.{Bool, _&&_}

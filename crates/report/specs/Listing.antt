@@ -10,16 +10,12 @@ use Rattle.record.specs.Record.{readOf}
 use Rattle.engine.specs.declared.State.{State}
 use Rattle.engine.specs.declared.Started.{Started}
 use Rattle.engine.specs.declared.Answer.{Answer}
-use Rattle.uses.specs.declared.Use.{Use}
-use Rattle.uses.specs.declared.Use.the-variants as use-for
 use Rattle.engine.specs.Slot.{slotOf}
 use Rattle.engine.specs.Calls.{requestOf, lateTotalOf}
 use Rattle.engine.specs.Start.{startOf}
 use Rattle.events.specs.declared.Event.{Event}
 use Rattle.events.specs.declared.Event.the-variants as event
 use Rattle.events.specs.Events.{recordOf, recordLength, eventAt, widthOf}
-use Rattle.lines.specs.declared.Shown.{Shown}
-use Rattle.lines.specs.declared.Shown.the-variants as shown
 use Rattle.lines.specs.Lines.{slotLine, refusedLine, badLine, totalLine, longLine}
 use Rattle.text.specs.Text.{lineOf}
 use Rattle.report.specs.declared.Heard.{Heard}
@@ -49,15 +45,9 @@ openedOf s = record { going = goesAhead s; line = lineOf (openingText s); state 
 
 -- An event
 
-abbrev pub shownOf : Use → Shown
-shownOf (use-for.Hard row) = shown.Hard row
-shownOf (use-for.Given name) = shown.Given name
-shownOf use-for.Empty = shown.Empty
-shownOf use-for.Lost = shown.Lost
-
 -- a slot that is run prints its number, its use and the late word
 abbrev pub answerText : ℕ → Answer → List ℕ
-answerText slot a = cond (eqb (a .number) 0) (slotLine slot (shownOf (a .used)) (a .word)) (refusedLine (a .number) 0)
+answerText slot a = cond (eqb (a .number) 0) (slotLine slot (a .used) (a .word)) (refusedLine (a .number) 0)
 
 -- a request that is taken prints nothing
 abbrev pub numberText : ℕ → List ℕ

@@ -7,14 +7,12 @@ ghost use Rattle.table.specs.Verdicts.{numberOf, rowNamed};
 ghost use mathlib.Core.Bool.{true};
 ghost use Rattle.engine.specs.Slot.{slotOf};
 ghost use Rattle.engine.specs.Calls.{requestOf};
-ghost use Rattle.report.specs.Listing.{openedOf, shownOf, answerText, numberText, heardOf, totalText};
+ghost use Rattle.report.specs.Listing.{openedOf, answerText, numberText, heardOf, totalText};
 use engine::Answer;
 use engine::State;
 use events::Event;
-use lines::Shown;
 use table::Verdict;
 use text::Line;
-use uses::Use;
 
 // The line may be empty. Where `going` is false no event follows.
 pub struct Opened {
@@ -73,23 +71,12 @@ pub fn open(s: &[u8]) -> Opened
     }
 }
 
-fn show(u: Use) -> Shown
-    ensures { λ r. ⌜ r ≡ shownOf u ⌝ }
-{
-    match u {
-        Use::Hard(row) => Shown::Hard(row),
-        Use::Given(name) => Shown::Given(name),
-        Use::Empty => Shown::Empty,
-        Use::Lost => Shown::Lost,
-    }
-}
-
 fn answer_line(slot: u64, a: Answer) -> Line
     ensures { λ r. ⌜ r ≡ lineOf (answerText slot a) ⌝ }
 {
     if a.number == 0 {
         let u = a.used;
-        lines::slot_line(slot, show(u), a.word)
+        lines::slot_line(slot, u, a.word)
     } else {
         lines::refused_line(a.number, 0)
     }

@@ -2,7 +2,7 @@
 use mathlib.Core.Path.{_≡_}
 use borrow.Author.Needs.{needs}
 use lib.ListN.{length}
-use Rattle.lines.specs.declared.Shown.the-variants.{Hard, Given, Empty, Lost}
+use Rattle.uses.specs.declared.Use.the-variants.{Hard, Given, Empty, Lost}
 use Rattle.text.specs.Text.{text, decimal}
 use Rattle.lines.specs.Lines.{useText}
 use Rattle.text.proofs.Laid.{piece-more}
