@@ -7,6 +7,7 @@ ghost use Rattle.late.specs.Late.{up};
 ghost use Rattle.uses.specs.declared.Use.the-variants.{Empty};
 ghost use Rattle.engine.specs.Slot.{slotOf};
 ghost use Rattle.engine.specs.Said.{saidOf, casesOf, isOn, slotSaid};
+ghost use Rattle.engine.specs.Legal.{legal};
 ghost use Rattle.engine.specs.Calls.{requestOf, lateTotalOf};
 ghost use Rattle.engine.specs.Start.{blank, noState, startOf};
 use table::Table;
@@ -284,30 +285,35 @@ pub fn slot(s: State, lost: bool) -> Slotted
     }
 }
 
+// For the calls that may copy a state; the slot asks for itself.
+fn is_legal(s: State) -> bool
+    ensures { λ r. ⌜ r ≡ legal s ⌝ }
+{
+    legal::is_legal(
+        s.n,
+        s.next,
+        &s.c,
+        &s.t,
+        &s.d,
+        &s.k,
+        &s.left,
+        &s.counter,
+        &s.late,
+        s.count,
+        &s.names,
+        &s.sizes,
+        s.hard,
+        s.given,
+        s.empty,
+        s.lost,
+    )
+}
+
 pub fn request(s: State, name: u16, size: u16) -> Requested
     ensures { λ r. ⌜ r ≡ requestOf s name size ⌝ }
 {
+    let ok = is_legal(s);
     let mut r = s;
-    let n = r.n;
-    let next = r.next;
-    let ok = legal::is_legal(
-        n,
-        next,
-        &r.c,
-        &r.t,
-        &r.d,
-        &r.k,
-        &r.left,
-        &r.counter,
-        &r.late,
-        r.count,
-        &r.names,
-        &r.sizes,
-        r.hard,
-        r.given,
-        r.empty,
-        r.lost,
-    );
     let count = r.count;
     let u = legal::request_refusal(ok, size, count);
     if u == 0 {
@@ -324,26 +330,7 @@ pub fn request(s: State, name: u16, size: u16) -> Requested
 pub fn late_total(s: State) -> Summed
     ensures { λ r. ⌜ r ≡ lateTotalOf s ⌝ }
 {
-    let n = s.n;
-    let next = s.next;
-    let ok = legal::is_legal(
-        n,
-        next,
-        &s.c,
-        &s.t,
-        &s.d,
-        &s.k,
-        &s.left,
-        &s.counter,
-        &s.late,
-        s.count,
-        &s.names,
-        &s.sizes,
-        s.hard,
-        s.given,
-        s.empty,
-        s.lost,
-    );
+    let ok = is_legal(s);
     if !ok {
         return Summed {
             number: 11,

@@ -1,6 +1,5 @@
 -- `engine::late_total` meets its contract. Assumes nothing.
 use Rattle.engine.specs.Calls.{lateTotalOf}
-use Rattle.engine.specs.Legal.{legal}
 use Rattle.late.proofs.Counts.{total-exact}
 use Prim.Native.Nat.{_-_}
 use Rattle.engine.proofs.Legality.{legal-says, late-low}
@@ -10,16 +9,12 @@ use mathlib.Core.Path.{_≡_, sym, _∙_}
 use Rattle.engine.proofs.late_total.Statement.{statement}
 use Rattle.engine.proofs.late_total.Tie as tie
 
-tested : (c : tie.After-is-legal) → c .is-legal .result ≡ legal (c .before .before .before .before .before .before .before .before .before .before .before .args .t1)
-unfolding legal
-tested c = c .is-legal .ensures
-
 is-legal-requires : tie.Need-is-legal-requires
 is-legal-requires c κs = tt
 
 returns : tie.Need-returns
 unfolding lateTotalOf
-returns c = rw (sym (tested (c .before)) ∙ not-true _ (c .if1 .taken))
+returns c = rw (sym (c .before .is-legal .ensures) ∙ not-true _ (c .if1 .taken))
 
 late-total-requires : tie.Need-late-total-requires
 late-total-requires c κs = tt
@@ -28,7 +23,7 @@ returns-2 : tie.Need-returns-2
 unfolding lateTotalOf
 returns-2 c =
     let x4 = c .before .before .before .before in
-    let f = sym (tested x4) ∙ not-false _ (c .before .before .before .if1 .left) in
+    let f = sym (x4 .is-legal .ensures) ∙ not-false _ (c .before .before .before .if1 .left) in
     let g = legal-says _ f in
     let k = g .clock in
     rw (f, c .late-total .ensures, total-exact _ (late-low _ g) (omega arith))

@@ -1,5 +1,4 @@
 -- `engine::request` meets its contract. Assumes nothing.
-use Rattle.engine.specs.Legal.{legal}
 use Rattle.engine.specs.Calls.{requestRefusal, requestOf}
 use Rattle.engine.proofs.Ran.{joined-is}
 use lib.ListN.{length}
@@ -18,8 +17,7 @@ names-long c = search needs
 sizes-long : (c : tie.Start) → length (c .args .s .sizes) ≡ 32
 sizes-long c = search needs
 
-tested : (c : tie.After-request-refusal) → let v = c .before .before .before .before .before .before .before .before .before .before .before .before .args in c .request-refusal .result ≡ requestRefusal (v .s) (v .name) (v .size)
-unfolding legal
+tested : (c : tie.After-request-refusal) → let v = c .before .before .args in c .request-refusal .result ≡ requestRefusal (v .s) (v .name) (v .size)
 tested c = request-tested _ _ _ (c .before .is-legal .ensures) (c .request-refusal .ensures)
 
 is-legal-requires : tie.Need-is-legal-requires
@@ -48,7 +46,7 @@ returns c =
     let x2 = c .before .before in
     let x4 = x2 .before .before in
     let x5 = x4 .before in
-    let x17 = x5 .before .before .before .before .before .before .before .before .before .before .before .before in
+    let x17 = x5 .before .before in
     let v = x17 .args in
     let z = sym (tested x5) ∙ x4 .if1 .taken in
     let g = request-legal (v .s) (v .name) (v .size) z in
