@@ -1,5 +1,5 @@
 -- A slot's answer is told by its numbers.
-use mathlib.Core.Path.{_≡_, refl, ap}
+use mathlib.Core.Path.{_≡_, refl}
 use mathlib.Core.Bool.{Bool, true, false, cond}
 use Prim.Native.Nat.{ℕ}
 use lib.Dec.{eqb}
@@ -9,7 +9,6 @@ use Rattle.uses.specs.declared.Use.the-variants.{Empty}
 use Rattle.uses.specs.Uses.{usedFor}
 use Rattle.uses.proofs.Numbers.{used-told}
 use Rattle.engine.specs.declared.State.{State}
-use Rattle.engine.specs.declared.Answer.{Answer}
 use Rattle.engine.specs.declared.Slotted.{Slotted}
 use Rattle.engine.specs.Slot.{choiceOf, useOf, lateOf, settled, answered, slotRefusal, slotOf}
 use Rattle.engine.specs.Said.{saidOf, casesOf, isOn}

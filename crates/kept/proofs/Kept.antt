@@ -1,10 +1,10 @@
 -- Rows within their bounds, and how a slot keeps them there.
-use mathlib.Core.Path.{_≡_, refl, sym, _∙_}
+use mathlib.Core.Path.{_≡_, refl}
 use mathlib.Core.List.{List}
-use mathlib.Core.Bool.{Bool, true, false, cond, _&&_, _||_, and-true, and-false}
-use Prim.Native.Nat.{ℕ, zero, suc, _+_, _-_, _≤_, _<_}
+use mathlib.Core.Bool.{Bool, true, false, cond}
+use Prim.Native.Nat.{ℕ, _+_, _-_, _≤_, _<_}
 use native.Mathlib.Omega.{arith}
-use lib.Dec.{eqb, ltb, leb, leb·suc-zero, eqb·suc-zero}
+use lib.Dec.{eqb, ltb}
 use borrow.Author.Tests.{eq-eqb, lt-ltb, le-ltb, le-leb, ltb-true, ltb-false, leb-true, eqb-true}
 use Rattle.seq.specs.Places.{flag, at, over}
 use Rattle.seq.specs.Words.{bit}

@@ -1,15 +1,15 @@
 -- The quick tests of legality say what the definitions say.
-use mathlib.Core.Path.{_≡_, refl, sym, _∙_}
+use mathlib.Core.Path.{_≡_, refl, sym}
 use mathlib.Core.List.{List}
 use mathlib.Core.Bool.{Bool, true, false, cond, not, _&&_, _||_}
-use Prim.Native.Nat.{ℕ, zero, suc, _+_, _-_, _≤_, _<_, min}
+use Prim.Native.Nat.{ℕ, zero, suc, _-_, _≤_, _<_, min}
 use native.Mathlib.Omega.{arith}
 use lib.Dec.{eqb, ltb, leb}
 use lib.Bits.{bitOr, or-add-and, and-le-l, and-le-r}
-use borrow.Author.Tests.{not-true, eq-eqb, ne-eqb, lt-ltb, le-ltb, le-leb, lt-leb, ltb-true, ltb-false, leb-true, leb-false, eqb-true}
+use borrow.Author.Tests.{not-true, eq-eqb, ne-eqb, lt-ltb, le-ltb, le-leb, ltb-true, ltb-false, leb-true, eqb-true}
 use Rattle.seq.specs.Places.{at, every, lead}
-use Rattle.seq.proofs.Tests.{both-true, either-true, either-false, true-false, no-true}
-use Rattle.seq.proofs.Places.{every-at, every-true, lead-full, lead-all, lead-most, lead-stop}
+use Rattle.seq.proofs.Tests.{both-true, either-false, true-false}
+use Rattle.seq.proofs.Places.{every-at, every-true, lead-full, lead-all}
 use Rattle.table.specs.Verdicts.{taken, refuse, _andThen_}
 use Rattle.table.specs.Form.{inOrder, allZero, sound, unsoundRow, rising, fallingRow, countVerdict, rowsVerdict, periodsVerdict, formVerdict}
 use Rattle.kept.specs.Kept.{tableLegal, rowKept, rowsKept, kept, latesKept}

@@ -1,5 +1,4 @@
 -- The answers as numbers, for callers outside.
-use Prim.Native.Nat.{ℕ}
 use Rattle.table.specs.Verdicts.{numberOf, rowNamed}
 use Rattle.record.specs.declared.Reading.{Reading}
 use Rattle.record.specs.declared.Written.{Written}

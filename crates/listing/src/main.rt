@@ -1,6 +1,7 @@
 // The listing program: bytes in, lines out. What is printed is decided in `report`; here bytes are only moved.
 
-ghost use mathlib.Core.Path.{_≡_};
+ghost use Prim.Native.Nat.{_+_, _≤_};
+ghost use lib.ListN.{length};
 use engine::State;
 use text::Line;
 
@@ -11,32 +12,41 @@ fn main() {
     list(&input[..n]);
 }
 
+// The record says how the run opens; the events are handed on as the part behind it.
 fn list(s: &[u8]) {
     let o = report::open(s);
-    let mut state = o.state;
-    let mut going = o.going;
-    let began = going;
     let mut out = io::large_buffer();
-    let mut used = text::append(&mut out, 0, o.line);
-    let mut p = events::record_length(s);
+    let used = text::append(&mut out, 0, o.line);
+    if o.going {
+        run(
+            events::events(s),
+            events::record_length(s),
+            o.state,
+            &mut out,
+            used,
+        );
+    } else {
+        send(&out, used);
+    }
+}
+
+// `head` bytes of the input stand before the events.
+fn run(s: &[u8], head: usize, start: State, out: &mut [u8], filled: usize)
+    requires { ⌜ head + length (now s) ≤ 65536 ⌝ }
+{
+    let mut state = start;
+    let mut used = filled;
+    let mut going = true;
+    let mut p = 0;
     while going {
         let e = events::event_at(s, p);
-        let h = report::hear(state, e, p);
-        used = put(&mut out, used, h.line);
+        let h = report::hear(state, e, head + p);
+        used = put(&mut *out, used, h.line);
         state = h.state;
         going = h.going;
         p = p + events::width(e);
     }
-    finish(&mut out, used, began, state);
-}
-
-// The total, if the run began, and what was not sent yet.
-fn finish(out: &mut [u8], used: usize, began: bool, state: State) {
-    if began {
-        let u = put(&mut *out, used, report::total(state));
-        send(&*out, u);
-        return;
-    }
+    used = put(&mut *out, used, report::total(state));
     send(&*out, used);
 }
 

@@ -28,6 +28,6 @@ goes-out n p Lost h = omega arith
 goes-out n p (Request name size) h = omega arith
 goes-out n p Bad h = omega arith
 
-pub runs-out : (n p : ℕ) (z : State) (e : Event) → p + widthOf e ≤ n → n - (p + widthOf e) + flag (heardOf z e p .going) < n - p + 1
+pub runs-out : (n p q : ℕ) (z : State) (e : Event) → p + widthOf e ≤ n → n - (p + widthOf e) + flag (heardOf z e q .going) < n - p + 1
 unfolding heardOf
-runs-out n p z = goes-out n p
+runs-out n p q z = goes-out n p

@@ -5,7 +5,7 @@ use Prim.Native.Nat.{_-_}
 use Rattle.engine.proofs.Legality.{legal-says, late-low}
 use native.Mathlib.Omega.{arith}
 use borrow.Author.Tests.{not-true, not-false}
-use mathlib.Core.Path.{_≡_, sym, _∙_}
+use mathlib.Core.Path.{sym, _∙_}
 use Rattle.engine.proofs.late_total.Statement.{statement}
 use Rattle.engine.proofs.late_total.Tie as tie
 

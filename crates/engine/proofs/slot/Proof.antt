@@ -1,7 +1,6 @@
 -- `engine::slot` meets its contract. Assumes nothing.
-use mathlib.Core.Path.{_≡_, ap, _∙_}
+use mathlib.Core.Path.{ap, _∙_}
 use mathlib.Core.Bool.{Bool}
-use Prim.Native.Nat.{ℕ}
 use borrow.Author.Needs.{needs}
 use Rattle.seq.specs.Places.{at}
 use Rattle.engine.specs.declared.SlotSaid.{SlotSaid}

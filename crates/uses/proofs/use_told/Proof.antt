@@ -1,6 +1,5 @@
 -- `uses::use_told` meets its contract. Assumes nothing.
 use borrow.Author.Tests.{eq-eqb, ne-eqb}
-use borrow.Author.Needs.{needs}
 use Rattle.uses.proofs.use_told.Statement.{statement}
 use Rattle.uses.proofs.use_told.Tie as tie
 
