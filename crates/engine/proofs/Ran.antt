@@ -64,7 +64,7 @@ module _ (s : State) (g : Legal s) (names-long : length (s .names) ≡ 32) (size
         → on ≡ isGiven v
         → dn ≡ last on (at (s .sizes) 0)
         → pays ≡ isGive x && not lost
-        → k₂ ≡ charged pays k₁
+        → k₂ ≡ charged (s .n) pays k₁
         → row ≡ rowServed v
         → l₂ ≡ worked row l₁
         → z₁ ≡ lowered on (s .sizes)

@@ -67,7 +67,7 @@ module _ (s : State) (lost : Bool) where
       with-figures s
       (suc (s .next))
       (leftJudged (ran s) (s .n) (s .c) (s .t) (s .d) (rowServed useOf) (s .left))
-      (charged (isGive (choiceOf s) && not lost) (counter₁ s))
+      (charged (s .n) (isGive (choiceOf s) && not lost) (counter₁ s))
       (counted lateOf (s .late))
       (cond (isGiven useOf) (served (queue s)) (queue s))
       (tallied useOf (tally s))

@@ -242,7 +242,7 @@ pub fn slot_said(s: State, lost: u8) -> SlotSaid
         let on = uses::is_given(used);
         let size = r.sizes[0];
         let done = queue::is_last(on, size);
-        rows::charge(&mut r.counter, uses::charges(choice, gone));
+        rows::charge(&mut r.counter, n, uses::charges(choice, gone));
         rows::work(&mut r.left, uses::row_served(used));
         queue::lower(&mut r.sizes, on);
         queue::shift(&mut r.sizes, done);

@@ -81,9 +81,9 @@ module _ (c d k : List ℕ) where
     unfolding reloaded
     reloaded-kept n l = counters-kept (idle n l) (λ i x. at k i) (λ i x h. omega arith)
 
-    pub charged-kept : (on : Bool) → AllBounds left (charged on counter)
+    pub charged-kept : (n : ℕ) (on : Bool) → AllBounds left (charged n on counter)
     unfolding charged
-    charged-kept on = counters-kept 16 (λ i x. x - flag on) (λ i x h. omega arith)
+    charged-kept n on = counters-kept (rowsOf n) (λ i x. x - flag on) (λ i x h. omega arith)
 
     pub released-kept : (due : ℕ) → AllBounds (released due c left) counter
     unfolding released

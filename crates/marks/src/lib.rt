@@ -9,6 +9,7 @@ use seq::both;
 use seq::has;
 use seq::less;
 use seq::lesser;
+use seq::top;
 
 fn wide(x: u16) -> u64
     ensures { λ r. ⌜ r ≡ x ⌝ }
@@ -57,12 +58,10 @@ pub fn mark<'a>(t: &'a [u16; 16], d: &'a [u16; 16], n: usize, m: u64) -> Marks
 pub fn late_word(left: &[u16; 16], end: u16) -> u16
     ensures { λ r. ⌜ r ≡ lateWord end (now (left .entry)) ⌝ }
 {
-    if end == 0 {
-        return 0;
-    }
+    let m = top(end);
     let mut w: u16 = 0;
     let mut i = 0;
-    while i < 16 {
+    while i < m {
         let on = both(has(end, i), 0 < left[i]);
         w = with_bit(w, i, on);
         i += 1;

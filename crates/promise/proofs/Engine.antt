@@ -71,7 +71,7 @@ module _ {x : Table} {k : List ℕ} {y : ℕ} where
           k-same = q .k-same;
           clock = ap suc (q .clock);
           left-long = judged-long (ran z) (z .n) (z .c) (z .t) (z .d) (z .left) (q .left-long) (rowServed (useOf z lost));
-          counter-long = over-length 16 _ (counter₁ z) ∙ counter₁-long;
+          counter-long = over-length _ _ (counter₁ z) ∙ counter₁-long;
           late-long = over-length 16 _ (z .late) ∙ q .late-long;
         }
 

@@ -101,11 +101,11 @@ module _ (s : State) (lost : Bool) (p : Legal s) where
       let row : ℕ = rowServed (useOf s lost) in
       let a = kept-bounds (s .c) (s .d) (s .k) (s .n) (s .left) (s .counter) (p .rows) in
       let b = reloaded-kept (s .c) (s .d) (s .k) (s .left) (s .counter) a (s .n) (s .left) in
-      let e = charged-kept (s .c) (s .d) (s .k) (s .left) l b on in
-      let f = released-kept (s .c) (s .d) (s .k) (s .left) (charged on l) e (dueWord m (s .n) (s .t)) in
-      let g = worked-kept (s .c) (s .d) (s .k) (leftReleased m (s .n) (s .c) (s .t) (s .d) (s .left)) (charged on l) f row in
+      let e = charged-kept (s .c) (s .d) (s .k) (s .left) l b (s .n) on in
+      let f = released-kept (s .c) (s .d) (s .k) (s .left) (charged (s .n) on l) e (dueWord m (s .n) (s .t)) in
+      let g = worked-kept (s .c) (s .d) (s .k) (leftReleased m (s .n) (s .c) (s .t) (s .d) (s .left)) (charged (s .n) on l) f row in
       bounds-kept (s .c) (s .d) (s .k) (s .n) _ _ (λ i g h. let z = taken-iff (s .n) (s .c) (s .t) (s .d) .0 (taken-is _ (p .table)) .past i g h in (z .0, z .2))
-      (dropped-kept (s .c) (s .d) (s .k) (leftUsed m (s .n) (s .c) (s .t) (s .d) row (s .left)) (charged on l) g (lates m (s .n) (s .c) (s .t) (s .d) row (s .left)))
+      (dropped-kept (s .c) (s .d) (s .k) (leftUsed m (s .n) (s .c) (s .t) (s .d) row (s .left)) (charged (s .n) on l) g (lates m (s .n) (s .c) (s .t) (s .d) row (s .left)))
 
   none-past : (i : ℕ) → s .n ≤ i → i < 16 → bit (lateOf s lost) i ≡ false
   unfolding lateOf lates

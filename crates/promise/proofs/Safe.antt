@@ -105,7 +105,7 @@ module _ (x : Table) (a : testOf x .verdict ≡ Taken) (i : ℕ) (r : i < x .n) 
     unfolding settled with-figures
     counter-next =
         ap (λ (s : State). at (s .counter) i) (trail calls (begun x k) y p .next)
-        ∙ charged-at i (omega (arith, ordered .counted .1)) (isGive (choiceOf (before y)) && not (out y)) (counter₁ (before y)) (omega (arith, counter₁-long q, ordered .counted .1))
+        ∙ charged-at i (before y .n) rows (isGive (choiceOf (before y)) && not (out y)) (counter₁ (before y)) (omega (arith, counter₁-long q, ordered .counted .1))
 
     slot-took : 1 ≤ backlog (used y) i → suc (backlog (used y) i + at (before (suc y) .counter) i) ≤ backlog (mid y) i + at (counter₁ (before y)) i
     slot-took b =

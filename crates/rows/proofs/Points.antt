@@ -19,11 +19,11 @@ module _ (i : ℕ) where
       split true e = over-in 0 (idle n left) _ counter i (ltb-true _ _ e) g
       split false e = over-out 0 (idle n left) _ counter i (ltb-false _ _ e)
 
-  module _ (h : i < 16) where
-    pub charged-at : (on : Bool) (counter : List ℕ) → i < length counter → at (charged on counter) i ≡ at counter i - flag on
-    unfolding charged
-    charged-at on counter g = over-in 0 16 _ counter i h g
+  pub charged-at : (n : ℕ) → i < rowsOf n → (on : Bool) (counter : List ℕ) → i < length counter → at (charged n on counter) i ≡ at counter i - flag on
+  unfolding charged
+  charged-at n h on counter g = over-in 0 (rowsOf n) _ counter i h g
 
+  module _ (h : i < 16) where
     pub worked-at : (row : ℕ) (left : List ℕ) → i < length left → at (worked row left) i ≡ at left i - flag (eqb i row)
     unfolding worked
     worked-at row left g = over-in 0 16 _ left i h g

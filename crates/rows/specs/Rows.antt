@@ -26,8 +26,8 @@ released due c left = over 16 (λ i x. cond (bit due i) (at c i) x) left
 unfoldable pub noneZero : ℕ → List ℕ → Bool
 noneZero n counter = every (rowsOf n) (λ i. ltb 0 (at counter i))
 
-unfoldable pub charged : Bool → List ℕ → List ℕ
-charged on counter = over 16 (λ i x. x - flag on) counter
+unfoldable pub charged : ℕ → Bool → List ℕ → List ℕ
+charged n on counter = over (rowsOf n) (λ i x. x - flag on) counter
 
 unfoldable pub worked : ℕ → List ℕ → List ℕ
 worked row left = over 16 (λ i x. x - flag (eqb i row)) left

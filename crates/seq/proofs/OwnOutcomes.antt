@@ -12,6 +12,7 @@ use Rattle.seq.proofs.less.Reads as less
 use Rattle.seq.proofs.lesser.Reads as lesser
 use Rattle.seq.proofs.pick.Reads as pick
 use Rattle.seq.proofs.has.Reads as has
+use Rattle.seq.proofs.top.Reads as top
 
 both-one : OneOutcome both.Post (λ κs x s. x)
 both-one = one-outcome both.Post _ _ (λ κs a x s p. p)
@@ -36,3 +37,6 @@ pick-one = one-outcome pick.Post _ _ (λ κs a x s p. p)
 
 has-one : OneOutcome has.Post (λ κs x s. x)
 has-one = one-outcome has.Post _ _ (λ κs a x s p. p)
+
+top-one : OneOutcome top.Post (λ κs x s. x)
+top-one = one-outcome top.Post _ _ (λ κs a x s p. p)

@@ -1,5 +1,5 @@
 -- Laws of lists by place, and of the loops that make them.
-use mathlib.Core.Path.{_≡_, refl, sym, ap}
+use mathlib.Core.Path.{_≡_, refl, sym, ap, _∙_}
 use mathlib.Core.List.{List, [], _∷_, _++_}
 use mathlib.Core.Bool.{Bool, true, false, cond, _&&_, and-true, and-false, and-assoc}
 use Prim.Native.Nat.{ℕ, zero, suc, _+_, _≤_, _<_, min, _-_}
@@ -10,8 +10,8 @@ use lib.ListN.{length, getD, set, replicate, take, drop, length-drop}
 use lib.Seq.{ext-getD, take-all, take-nil}
 use Rattle.seq.specs.Places.{at, tab, over, lead, every}
 use Rattle.seq.proofs.Tests.{both-true}
-use borrow.Author.Tests.{leb-true, leb-false, le-leb, lt-leb}
-use lib.Dec.{leb}
+use borrow.Author.Tests.{ltb-true, ltb-false, leb-true, leb-false, le-leb, lt-leb}
+use lib.Dec.{ltb, leb}
 
 pub at-zeros : (n i : ℕ) → at (replicate n 0) i ≡ 0
 at-zeros zero i = refl
@@ -73,6 +73,17 @@ module _ {A : Type 0} where
   over-is d (suc n) f (x ∷ l) [] e a b = absurd (omega arith)
   over-is d (suc n) f (x ∷ l) (y ∷ k) e a b =
       rw (a 0 (omega arith) (omega arith), over-is d n (λ i. f (suc i)) l k (omega arith) (λ i h g. a (suc i) (omega arith) (omega arith)) (λ i h g. b (suc i) (omega arith) (omega arith)))
+
+  -- places from n on that stay as they are may be left out
+  pub over-stop : (d : A) (n m : ℕ) (f : ℕ → A → A) (l : List A) → n ≤ m → ((i : ℕ) (x : A) → n ≤ i → f i x ≡ x) → over n f l ≡ over m f l
+  over-stop d n m f l g h =
+      over-is d n f l (over m f l) (sym (over-length m f l))
+      (λ i p q. sym (over-in d m f l i (omega arith) q))
+      (λ i p q. same i p q (ltb i m) refl)
+    where
+      same : (i : ℕ) → n ≤ i → i < length l → (b : Bool) → ltb i m ≡ b → getD l i d ≡ getD (over m f l) i d
+      same i p q true e = sym (over-in d m f l i (ltb-true i m e) q ∙ h i (getD l i d) p)
+      same i p q false e = sym (over-out d m f l i (ltb-false i m e))
 
   over-set : (d : A) (n : ℕ) (f : ℕ → A → A) (l : List A) → set (over n f l) n (f n (getD l n d)) ≡ over (suc n) f l
   unfolding over

@@ -2,17 +2,17 @@
 use mathlib.Core.Path.{_≡_, refl}
 use mathlib.Core.List.{List, [], _∷_, _++_}
 use mathlib.Core.Bool.{Bool, true, false}
-use Prim.Native.Nat.{ℕ, zero, suc, _+_, _*_, _/_, _%_, _^_, _≤_, _<_}
+use Prim.Native.Nat.{ℕ, zero, suc, _+_, _-_, _*_, _/_, _%_, _^_, _≤_, _<_}
 use native.Mathlib.Numerals.{add-one}
 use native.Mathlib.Omega.{arith}
-use native.Mathlib.Nat.{pow-suc, mul-comm, mul-assoc, add-zero, div-div-eq-div-mul, div-eq-of-lt}
+use native.Mathlib.Nat.{pow-suc, mul-comm, mul-assoc, add-zero, div-div-eq-div-mul, div-eq-of-lt, lt-of-lt-of-le}
 use lib.ListN.{length, getD, List·getD-eq-default}
 use lib.Bits.{bitOr, or-shifted-r}
-use lib.Pow.{pow-pos, shl-exact}
-use lib.Count.{ones, ones-step}
+use lib.Pow.{pow-pos, pow-mono, shl-exact}
+use lib.Count.{ones, ones-step, leading-length}
 use lib.Dec.{eqb}
 use Rattle.seq.specs.Places.{flag, tab}
-use Rattle.seq.specs.Words.{word, trues, bit}
+use Rattle.seq.specs.Words.{word, trues, bit, topOf}
 use Rattle.seq.proofs.Places.{tab-length, tab-at, tab-suc}
 
 -- words
@@ -82,3 +82,24 @@ pub tab-word-none : (n : ℕ) (f : ℕ → Bool) → ((i : ℕ) → f i ≡ fals
 unfolding word tab
 tab-word-none zero f e = refl
 tab-word-none (suc n) f e = rw (e 0, tab-word-none n (λ i. f (suc i)) (λ i. e (suc i)))
+
+-- no bit is set from the top on
+pub top-low : (w : ℕ) → w < 65536 → w < 2 ^ topOf w
+top-low w h =
+    let y = leading-length 16 w h in
+    let e : topOf w ≡ y .0 = omega (arith, y .1) in
+    rw e (y .2)
+
+pub top-clear : (w : ℕ) → w < 65536 → (j : ℕ) → topOf w ≤ j → bit w j ≡ false
+unfolding bit
+top-clear w h j g = rw (div-eq-of-lt (lt-of-lt-of-le (top-low w h) (pow-mono g)))
+
+-- flags that are false from n on add nothing to a word
+pub word-stop : (n k : ℕ) (f : ℕ → Bool) → ((j : ℕ) → n ≤ j → f j ≡ false) → word (tab (n + k) f) ≡ word (tab n f)
+word-stop n zero f h = rw (add-zero n)
+word-stop n (suc k) f h =
+    let e : n + suc k ≡ n + k + 1 = omega arith in
+    rw (e, tab-word-more (n + k) f, h (n + k) (omega arith), word-stop n k f h) (mul-none (2 ^ (n + k)) (word (tab n f)))
+  where
+    mul-none : (a b : ℕ) → b + a * 0 ≡ b
+    mul-none a b = omega arith

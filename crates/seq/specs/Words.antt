@@ -1,8 +1,9 @@
 -- Words of bits, bit 0 for the first.
-use Prim.Native.Nat.{ℕ, _+_, _*_, _/_, _%_, _^_}
+use Prim.Native.Nat.{ℕ, _+_, _-_, _*_, _/_, _%_, _^_}
 use mathlib.Core.List.{List, [], _∷_}
 use mathlib.Core.Bool.{Bool}
 use lib.Dec.{eqb}
+use lib.Count.{leadingZeros}
 use Rattle.seq.specs.Places.{flag}
 
 -- the word whose bits are the flags
@@ -18,3 +19,7 @@ trues (b ∷ l) = flag b + trues l
 -- bit i of w
 unfoldable pub bit : ℕ → ℕ → Bool
 bit w i = eqb (w / 2 ^ i % 2) 1
+
+-- how many low bits a word of 16 needs
+abbrev pub topOf : ℕ → ℕ
+topOf w = 16 - leadingZeros 16 w

@@ -4,7 +4,7 @@ ghost use mathlib.Core.Path.{_≡_};
 ghost use mathlib.Core.Bool.{cond, _&&_, _||_};
 ghost use Prim.Native.Nat.{_-_, _<_, min};
 ghost use Rattle.seq.specs.Places.{at};
-ghost use Rattle.seq.specs.Words.{bit};
+ghost use Rattle.seq.specs.Words.{bit, topOf};
 ghost use Rattle.seq.specs.Bytes.{bigAt};
 
 // Both tests are made, so that a chain of them has no branch and no fact to prove.
@@ -64,4 +64,17 @@ pub fn has(w: u16, i: usize) -> bool
     ensures { λ r. ⌜ r ≡ bit w i ⌝ }
 {
     if i < 16 { (w >> i) % 2 == 1 } else { false }
+}
+
+fn count(x: u32) -> usize
+    ensures { λ r. ⌜ r ≡ x ⌝ }
+{
+    x as usize
+}
+
+// All bits from there on are 0: a walk over the set bits need go no further.
+pub fn top(w: u16) -> usize
+    ensures { λ r. ⌜ r ≡ topOf w ⌝ }
+{
+    16 - count(u16::leading_zeros(w))
 }

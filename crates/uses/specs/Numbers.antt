@@ -12,6 +12,20 @@ useNumber (Given name) = 2
 useNumber Empty = 0
 useNumber Lost = 3
 
+-- the row's number from 1 on; 0 for none
+abbrev pub useRow : Use → ℕ
+useRow (Hard row) = row
+useRow (Given name) = 0
+useRow Empty = 0
+useRow Lost = 0
+
+-- the request's name; 0 for none
+abbrev pub useName : Use → ℕ
+useName (Hard row) = 0
+useName (Given name) = name
+useName Empty = 0
+useName Lost = 0
+
 -- the row's number from 1 on, or the request's name; 0 for neither
 abbrev pub useWho : Use → ℕ
 useWho (Hard row) = row

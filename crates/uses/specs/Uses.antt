@@ -22,6 +22,25 @@ isGive (choice.Hard row) = false
 isGive choice.Back = false
 isGive choice.Idle = false
 
+abbrev pub isAudio : Choice → Bool
+isAudio choice.Give = false
+isAudio (choice.Hard row) = true
+isAudio choice.Back = false
+isAudio choice.Idle = false
+
+abbrev pub isIdle : Choice → Bool
+isIdle choice.Give = false
+isIdle (choice.Hard row) = false
+isIdle choice.Back = false
+isIdle choice.Idle = true
+
+-- the row that is chosen; 0 for none
+abbrev pub audioRow : Choice → ℕ
+audioRow choice.Give = 0
+audioRow (choice.Hard row) = row
+audioRow choice.Back = 0
+audioRow choice.Idle = 0
+
 -- What the slot is used for, where the head request has this name
 abbrev pub chosenUse : Choice → ℕ → Use
 chosenUse choice.Give name = use-for.Given name

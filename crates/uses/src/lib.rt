@@ -2,8 +2,9 @@
 
 ghost use mathlib.Core.Path.{_≡_};
 ghost use mathlib.Core.Bool.{_&&_, not};
-ghost use Rattle.uses.specs.Numbers.{useNumber, useWho, useTold};
-ghost use Rattle.uses.specs.Uses.{chosen, isGive, chosenUse, usedFor, rowServed, isHard, isGiven, isEmpty, isLost};
+ghost use Rattle.seq.specs.Places.{flag};
+ghost use Rattle.uses.specs.Numbers.{useNumber, useRow, useName, useWho, useTold};
+ghost use Rattle.uses.specs.Uses.{chosen, isGive, isAudio, isIdle, audioRow, chosenUse, usedFor, rowServed, isHard, isGiven, isEmpty, isLost};
 use seq::both;
 use seq::lesser;
 
@@ -59,14 +60,50 @@ pub fn charges(choice: Choice, lost: bool) -> bool
     both(is_give(choice), !lost)
 }
 
+fn is_audio(choice: Choice) -> bool
+    ensures { λ r. ⌜ r ≡ isAudio choice ⌝ }
+{
+    match choice {
+        Choice::Give => false,
+        Choice::Hard(_) => true,
+        Choice::Back => false,
+        Choice::Idle => false
+    }
+}
+
+fn is_idle(choice: Choice) -> bool
+    ensures { λ r. ⌜ r ≡ isIdle choice ⌝ }
+{
+    match choice {
+        Choice::Give => false,
+        Choice::Hard(_) => false,
+        Choice::Back => false,
+        Choice::Idle => true
+    }
+}
+
+fn audio_row(choice: Choice) -> usize
+    ensures { λ r. ⌜ r ≡ audioRow choice ⌝ }
+{
+    match choice {
+        Choice::Give => 0,
+        Choice::Hard(row) => row,
+        Choice::Back => 0,
+        Choice::Idle => 0
+    }
+}
+
+// Tests and no match with four ways, of which the compiler would make a jump that keeps it from joining copies of the state.
 fn chosen_use(choice: Choice, name: u16) -> Use
     ensures { λ r. ⌜ r ≡ chosenUse choice name ⌝ }
 {
-    match choice {
-        Choice::Give => Use::Given(name),
-        Choice::Hard(row) => Use::Hard(row),
-        Choice::Back => Use::Given(name),
-        Choice::Idle => Use::Empty,
+    if is_audio(choice) {
+        return Use::Hard(audio_row(choice));
+    }
+    if is_idle(choice) {
+        Use::Empty
+    } else {
+        Use::Given(name)
     }
 }
 
@@ -135,15 +172,16 @@ pub fn is_lost(used: Use) -> bool
     }
 }
 
+fn one(on: bool) -> u8
+    ensures { λ r. ⌜ r ≡ flag on ⌝ }
+{
+    if on { 1 } else { 0 }
+}
+
 pub fn use_number(u: Use) -> u8
     ensures { λ r. ⌜ r ≡ useNumber u ⌝ }
 {
-    match u {
-        Use::Hard(_) => 1,
-        Use::Given(_) => 2,
-        Use::Empty => 0,
-        Use::Lost => 3
-    }
+    one(is_hard(u)) + 2 * one(is_given(u)) + 3 * one(is_lost(u))
 }
 
 fn wide(x: u16) -> usize
@@ -152,14 +190,35 @@ fn wide(x: u16) -> usize
     x as usize
 }
 
-pub fn use_who(u: Use) -> usize
-    ensures { λ r. ⌜ r ≡ useWho u ⌝ }
+fn use_row(u: Use) -> usize
+    ensures { λ r. ⌜ r ≡ useRow u ⌝ }
 {
     match u {
         Use::Hard(row) => row,
-        Use::Given(name) => wide(name),
+        Use::Given(_) => 0,
         Use::Empty => 0,
         Use::Lost => 0
+    }
+}
+
+fn use_name(u: Use) -> u16
+    ensures { λ r. ⌜ r ≡ useName u ⌝ }
+{
+    match u {
+        Use::Hard(_) => 0,
+        Use::Given(name) => name,
+        Use::Empty => 0,
+        Use::Lost => 0
+    }
+}
+
+pub fn use_who(u: Use) -> usize
+    ensures { λ r. ⌜ r ≡ useWho u ⌝ }
+{
+    if is_given(u) {
+        wide(use_name(u))
+    } else {
+        use_row(u)
     }
 }
 

@@ -1,30 +1,29 @@
 -- `late::drop_late` meets its contract. Assumes nothing.
-use mathlib.Core.Path.{_≡_, refl}
+use mathlib.Core.Path.{_≡_, refl, _∙_}
 use mathlib.Core.Bool.{cond}
-use Prim.Native.Nat.{_-_, _≤_}
+use Prim.Native.Nat.{_-_, _≤_, _<_}
 use native.Mathlib.Omega.{arith}
 use borrow.Author.Needs.{needs}
 use Rattle.seq.specs.Places.{at, over}
-use Rattle.seq.specs.Words.{bit}
-use Rattle.seq.proofs.Places.{over-more, over-at, over-same}
-use Rattle.seq.proofs.Words.{bit-zero}
+use Rattle.seq.specs.Words.{bit, topOf}
+use Rattle.seq.proofs.Places.{over-more, over-at, over-stop}
+use Rattle.seq.proofs.Words.{top-clear}
 use Rattle.late.specs.Late.{dropped}
 use Rattle.late.proofs.drop_late.Statement.{statement}
 use Rattle.late.proofs.drop_late.Tie as tie
 
 abbrev Inv-loop : tie.InvT-loop
-Inv-loop left₀ w i₀ left i = (i ≤ 16) × (left ≡ over i (λ j x. cond (bit w j) 0 x) left₀)
+Inv-loop left₀ w m i₀ left i = (i ≤ m) × (m ≡ topOf w) × (left ≡ over i (λ j x. cond (bit w j) 0 x) left₀)
 
 abbrev μ-loop : tie.MeasureT-loop
-μ-loop left₀ w i₀ left i = 16 - i
+μ-loop left₀ w m i₀ left i = m - i
 
-returns : tie.Need-returns Inv-loop μ-loop
-unfolding dropped
-returns c = rw (c .if1 .taken) (over-same 16 _ _ (λ i x h. rw (bit-zero i)))
+top-requires : tie.Need-top-requires Inv-loop μ-loop
+top-requires c κs = search needs
 
 loop-holds : tie.Need-loop-holds Inv-loop μ-loop
 unfolding over
-loop-holds c = (omega arith, refl)
+loop-holds c = (omega arith, c .top .ensures, refl)
 
 has-requires : tie.Need-has-requires Inv-loop μ-loop
 has-requires c κs = search needs
@@ -53,14 +52,16 @@ loop-less c = search needs
 loop-again : tie.Need-loop-again Inv-loop μ-loop
 loop-again c =
     let l = c .before .before .before .before .loop in
-    (omega arith, over-more 0 (l .i) _ _ _ _ (l .inv .1) (rw (c .pick .ensures, c .before .before .has .ensures, over-at 0 (l .i) _ _ (l .left) (l .i) (l .inv .1) (omega arith))))
+    (omega arith, l .inv .1, over-more 0 (l .i) _ _ _ _ (l .inv .2) (rw (c .pick .ensures, c .before .before .has .ensures, over-at 0 (l .i) _ _ (l .left) (l .i) (l .inv .2) (omega arith))))
 
-returns-2 : tie.Need-returns-2 Inv-loop μ-loop
+returns : tie.Need-returns Inv-loop μ-loop
 unfolding dropped
-returns-2 c =
+returns c =
     let l = c .before .loop in
-    let e : l .i ≡ 16 = omega arith in
-    rw e at (l .inv .1)
+    let y = c .before .before .before in
+    let e : l .i ≡ topOf (y .args .w) = omega (arith, l .inv .1) in
+    let small : y .args .w < 65536 = search needs in
+    (rw e at (l .inv .2)) ∙ over-stop 0 (topOf (y .args .w)) 16 _ _ (omega arith) (λ j x g. rw (top-clear (y .args .w) small j g))
 
 pub drop-late-spec : {M : Type 1} → statement M
 drop-late-spec =
@@ -68,7 +69,7 @@ drop-late-spec =
     (tie.spec
     Inv-loop
     μ-loop
-    returns
+    top-requires
     loop-holds
     has-requires
     mul-pick
@@ -79,4 +80,4 @@ drop-late-spec =
     add-i
     loop-less
     loop-again
-    returns-2)
+    returns)
