@@ -12,9 +12,21 @@ pub fn listing_program() -> PathBuf {
     Path::new(env!("CARGO_MANIFEST_DIR")).join("../../target/bin/listing")
 }
 
+/// A command that runs a program made for x86-64, on another processor by the emulator that `EMULATOR` names.
+pub fn command(program: &Path) -> Command {
+    match std::env::var_os("EMULATOR") {
+        Some(emulator) => {
+            let mut command = Command::new(emulator);
+            command.arg(program);
+            command
+        }
+        None => Command::new(program),
+    }
+}
+
 /// What a program prints for an input.
 pub fn printed(program: &Path, input: &[u8]) -> io::Result<Vec<u8>> {
-    let mut child = Command::new(program)
+    let mut child = command(program)
         .stdin(Stdio::piped())
         .stdout(Stdio::piped())
         .spawn()?;
