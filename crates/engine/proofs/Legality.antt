@@ -1,6 +1,6 @@
 -- What a legal state is known by, and the tests that tell it.
 use mathlib.Core.Path.{_≡_, refl}
-use mathlib.Core.Bool.{Bool, true, false, cond}
+use mathlib.Core.Bool.{Bool, true, false, cond, _&&_, and-assoc}
 use Prim.Native.Nat.{ℕ, suc, _+_, _-_, _≤_, _<_}
 use native.Mathlib.Omega.{arith}
 use lib.Dec.{eqb, leb}
@@ -9,7 +9,7 @@ use Rattle.seq.proofs.Tests.{both-true}
 use Rattle.kept.specs.Kept.{rowsKept, latesKept}
 use Rattle.late.proofs.Counts.{Within}
 use Rattle.kept.proofs.Kept.{lates-within}
-use Rattle.legal.specs.Legal.{lastSlot, figuresLegal}
+use Rattle.legal.specs.Legal.{lastSlot, clockLegal, figuresLegal}
 use Rattle.kept.specs.Kept.{tableLegal}
 use Rattle.queue.specs.Queue.{proper}
 use Rattle.engine.specs.declared.State.{State}
@@ -53,6 +53,18 @@ module _ (s : State) where
 
   pub late-low : Legal → Within (ran s) (s .late)
   late-low y = lates-within (s .n) (ran s) (s .late) (y .lates)
+
+-- the three parts of legality, as a call tests them
+pub parts-legal :
+    (s : State) {rows run queue both ok : Bool}
+    → rows ≡ (tableLegal (s .n) (s .c) (s .t) (s .d) && rowsKept (s .n) (s .c) (s .d) (s .k) (s .left) (s .counter))
+    → run ≡ (latesKept (s .n) (ran s) (s .late) && eqb (s .hard + s .given + s .empty + s .lost) (ran s) && clockLegal (s .next))
+    → queue ≡ proper (s .count) (s .names) (s .sizes)
+    → both ≡ (rows && run)
+    → ok ≡ (both && queue)
+    → ok ≡ legal s
+unfolding legal figuresLegal
+parts-legal s e-rows e-run e-queue e-both e-ok = rw (e-ok, e-both, e-queue, e-run, e-rows) (simp and-assoc)
 
 -- a refusal that is 0
 unrefused : (b z : Bool) → _≡_ {A = ℕ} (cond b (cond z 10 0) 11) 0 → (b ≡ true) × (z ≡ false)

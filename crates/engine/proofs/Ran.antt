@@ -1,8 +1,8 @@
 -- The values that the calls of a slot leave are the parts of the settled state and its answer; so for a request.
 use mathlib.Core.Path.{_≡_, ap, _∙_}
 use mathlib.Core.List.{List}
-use mathlib.Core.Bool.{Bool, cond, _&&_, not}
-use Prim.Native.Nat.{ℕ, _+_, _-_, _≤_, _<_}
+use mathlib.Core.Bool.{Bool, true, cond, _&&_, not}
+use Prim.Native.Nat.{ℕ, suc, _+_, _-_, _≤_, _<_}
 use native.Mathlib.Numerals.{add-one}
 use native.Mathlib.Omega.{arith}
 use lib.ListN.{length}
@@ -16,14 +16,16 @@ use Rattle.late.proofs.Counts.{up-exact, raised-counted}
 use Rattle.queue.specs.Queue.{Request, served, last, lowered, shifted, placed}
 use Rattle.queue.proofs.Laid.{Laid, proper-laid, laid-served, laid-asked}
 use Rattle.engine.specs.declared.State.{State}
-use Rattle.engine.specs.declared.Answer.{Answer}
-use Rattle.engine.specs.declared.Slotted.{Slotted}
+use Rattle.engine.specs.declared.Said.{Said}
+use Rattle.engine.specs.declared.SlotSaid.{SlotSaid}
 use Rattle.uses.specs.declared.Choice.{Choice}
 use Rattle.uses.specs.declared.Use.{Use}
+use Rattle.uses.specs.Numbers.{useNumber, useWho}
 use Rattle.uses.specs.Uses.{chosen, isGive, usedFor, rowServed, isHard, isGiven, isEmpty, isLost}
 use Rattle.engine.specs.States.{queue, with-figures}
 use Rattle.engine.specs.Legal.{ran}
 use Rattle.engine.specs.Slot.{leftReleased, leftUsed, lates, leftJudged, counter₁, left₁, choiceOf, useOf, lateOf, settled, answered}
+use Rattle.engine.specs.Said.{saidOf}
 use Rattle.engine.specs.Calls.{joined}
 use Rattle.engine.proofs.Legality.{Legal, late-low}
 
@@ -52,21 +54,24 @@ module _ (s : State) (g : Legal s) (names-long : length (s .names) ≡ 32) (size
   tally-exact : (on : Bool) (x : ℕ) {y : ℕ} → x ≤ ran s → y ≡ up on x → y ≡ x + flag on
   tally-exact on x h e = let k = g .clock in e ∙ up-exact on x (omega arith)
 
+  clock-exact : {y : ℕ} → y ≡ up true (s .next) → y ≡ suc (s .next)
+  clock-exact e = let k = g .clock in e ∙ up-exact true (s .next) (omega arith) ∙ add-one (s .next)
+
   module _ (lost : Bool) where
     pub ran-is :
-        {m : ℕ} {k₁ l₁ k₂ l₂ z₁ z₂ names l₃ late : List ℕ} {b : Marks} {x : Choice} {v : Use} {on dn pays ih ie il : Bool} {row count w hard given empty gone : ℕ} {a : Answer}
+        {m row count w hard given empty gone next : ℕ} {k₁ l₁ k₂ l₂ z₁ z₂ names l₃ late : List ℕ} {b : Marks} {x : Choice} {v : Use} {pays on dn ih ie il : Bool} {a : Said}
         → m ≡ ran s
         → k₁ ≡ reloaded (s .n) (s .left) (s .k) (s .counter)
         → b ≡ record { due = dueWord m (s .n) (s .t); end = endWord m (s .n) (s .t) (s .d) }
         → l₁ ≡ released (b .due) (s .c) (s .left)
         → x ≡ chosen (s .n) (s .count) l₁ k₁
         → v ≡ usedFor lost x (at (s .names) 0)
-        → on ≡ isGiven v
-        → dn ≡ last on (at (s .sizes) 0)
         → pays ≡ isGive x && not lost
         → k₂ ≡ charged (s .n) pays k₁
         → row ≡ rowServed v
         → l₂ ≡ worked row l₁
+        → on ≡ isGiven v
+        → dn ≡ last on (at (s .sizes) 0)
         → z₁ ≡ lowered on (s .sizes)
         → z₂ ≡ shifted dn z₁
         → names ≡ shifted dn (s .names)
@@ -81,13 +86,14 @@ module _ (s : State) (g : Legal s) (names-long : length (s .names) ≡ 32) (size
         → empty ≡ up ie (s .empty)
         → il ≡ isLost v
         → gone ≡ up il (s .lost)
-        → a ≡ record { number = 0; used = v; word = w; late = ones w }
-        → _≡_ {A = Slotted}
+        → next ≡ up true (s .next)
+        → a ≡ record { number = 0; used = useNumber v; word = w; late = ones w; who = useWho v }
+        → _≡_ {A = SlotSaid}
         (record {
           state =
               record {
                 n = s .n;
-                next = s .next + 1;
+                next = next;
                 c = s .c;
                 t = s .t;
                 d = s .d;
@@ -105,15 +111,14 @@ module _ (s : State) (g : Legal s) (names-long : length (s .names) ≡ 32) (size
               };
           answer = a;
         })
-        (record { state = settled s lost; answer = answered s lost })
+        (record { state = settled s lost; answer = saidOf (answered s lost) })
     unfolding settled answered with-figures lateOf useOf choiceOf left₁ counter₁ leftJudged lates leftUsed leftReleased
-    ran-is {on = on} {ih = ih} {ie = ie} {il = il} {w = w} e-m e-k e-b e-l e-x e-v e-on e-dn e-pays e-k2 e-row e-l2 e-z e-z2 e-names e-count e-w e-l3 e-late e-ih e-hard e-given e-ie e-empty e-il e-gone e-a =
+    ran-is {w = w} {on = on} {ih = ih} {ie = ie} {il = il} e-m e-k e-b e-l e-x e-v e-pays e-k2 e-row e-l2 e-on e-dn e-z e-z2 e-names e-count e-w e-l3 e-late e-ih e-hard e-given e-ie e-empty e-il e-gone e-next e-a =
         let due = ap (λ (q : Marks). q .due) e-b in
         let end = ap (λ (q : Marks). q .end) e-b in
         let t = g .tallies in
         let places = served-places on e-dn e-z e-z2 e-names e-count in
         rw (
-          add-one (s .next),
           ← e-m,
           ← e-k,
           ← due,
@@ -121,17 +126,17 @@ module _ (s : State) (g : Legal s) (names-long : length (s .names) ≡ 32) (size
           ← e-l,
           ← e-x,
           ← e-v,
-          ← e-on,
           ← e-pays,
           ← e-k2,
           ← e-row,
           ← e-l2,
-          ← e-w,
-          ← e-l3,
-          ← late-exact w e-late,
+          ← e-on,
           ← places .count-is,
           ← places .names-is,
           ← places .sizes-is,
+          ← e-w,
+          ← e-l3,
+          ← late-exact w e-late,
           ← e-ih,
           ← tally-exact ih (s .hard) (omega arith) e-hard,
           ← tally-exact on (s .given) (omega arith) e-given,
@@ -139,6 +144,7 @@ module _ (s : State) (g : Legal s) (names-long : length (s .names) ≡ 32) (size
           ← tally-exact ie (s .empty) (omega arith) e-empty,
           ← e-il,
           ← tally-exact il (s .lost) (omega arith) e-gone,
+          ← clock-exact e-next,
           ← e-a,
         )
 

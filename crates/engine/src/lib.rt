@@ -3,13 +3,12 @@
 ghost use mathlib.Core.Path.{_≡_};
 ghost use lib.Count.{ones};
 ghost use Rattle.seq.specs.Places.{flag};
-ghost use Rattle.late.specs.Late.{up};
-ghost use Rattle.uses.specs.declared.Use.the-variants.{Empty};
+ghost use Rattle.uses.specs.Numbers.{useNumber, useWho};
 ghost use Rattle.engine.specs.Slot.{slotOf};
-ghost use Rattle.engine.specs.Said.{saidOf, casesOf, isOn, slotSaid};
-ghost use Rattle.engine.specs.Legal.{legal};
+ghost use Rattle.engine.specs.Said.{casesOf, isOn, slotSaid};
 ghost use Rattle.engine.specs.Calls.{requestOf, lateTotalOf};
 ghost use Rattle.engine.specs.Start.{blank, noState, startOf};
+use seq::both;
 use table::Table;
 use table::Verdict;
 use uses::Use;
@@ -80,41 +79,31 @@ pub struct Summed {
     pub total: u64,
 }
 
-fn answered(used: Use, w: u16) -> Answer
-    ensures { λ r. ⌜ r ≡ record { number = 0; used = used; word = w; late = ones w } ⌝ }
+// The answer of a slot that was run.
+fn answered(used: Use, w: u16) -> Said
+    ensures { λ r. ⌜ r ≡ record { number = 0; used = useNumber used; word = w; late = ones w; who = useWho used } ⌝ }
 {
+    let number = uses::use_number(used);
+    let who = uses::use_who(used);
     let late = marks::late_rows(w);
-    Answer {
+    Said {
         number: 0,
-        used: used,
+        used: number,
         word: w,
         late: late,
+        who: who,
     }
 }
 
-fn refused(u: u8) -> Answer
-    ensures { λ r. ⌜ r ≡ record { number = u; used = Empty; word = 0; late = 0 } ⌝ }
+fn refused(u: u8) -> Said
+    ensures { λ r. ⌜ r ≡ record { number = u; used = 0; word = 0; late = 0; who = 0 } ⌝ }
 {
-    Answer {
+    Said {
         number: u,
-        used: Use::Empty,
+        used: 0,
         word: 0,
         late: 0,
-    }
-}
-
-fn in_numbers(a: Answer) -> Said
-    ensures { λ r. ⌜ r ≡ saidOf a ⌝ }
-{
-    let u = a.used;
-    let n = uses::use_number(u);
-    let w = uses::use_who(u);
-    Said {
-        number: a.number,
-        used: n,
-        word: a.word,
-        late: a.late,
-        who: w,
+        who: 0,
     }
 }
 
@@ -135,12 +124,6 @@ fn is_on(x: u8) -> bool
     ensures { λ r. ⌜ r ≡ isOn x ⌝ }
 {
     x != 0
-}
-
-fn tally(count: &mut u64, on: bool)
-    ensures { λ _. ⌜ now (count .exit) ≡ up on (now (count .entry)) ⌝ }
-{
-    *count = late::count_up(*count, on);
 }
 
 fn blank(next: u64, x: Table, k: [u16; 16]) -> State
@@ -199,68 +182,86 @@ pub fn start(x: Table) -> Started
     }
 }
 
-// One working copy; the steps of document 01 in their order, each on the arrays that it changes. Whether the slot is
-// lost is asked only after the choice. It answers in numbers, so that a call over a lent state needs no copy more.
+// Every call on a state goes the same way: each figure into a local of its own, legality in its three parts, the steps on the
+// locals, and a new state of the locals at the end. Nothing refers to the state itself, so the compiler copies no figure that
+// stays.
+
+// The steps of document 01 in their order. Whether the slot is lost is asked only after the choice.
 pub fn slot_said(s: State, lost: u8) -> SlotSaid
     ensures { λ r. ⌜ r ≡ slotSaid s lost ⌝ }
 {
-    let gone = is_on(lost);
-    let mut r = s;
-    let n = r.n;
-    let next = r.next;
-    let ok = legal::is_legal(
-        n,
-        next,
-        &r.c,
-        &r.t,
-        &r.d,
-        &r.k,
-        &r.left,
-        &r.counter,
-        &r.late,
-        r.count,
-        &r.names,
-        &r.sizes,
-        r.hard,
-        r.given,
-        r.empty,
-        r.lost,
-    );
+    let n = s.n;
+    let mut next = s.next;
+    let c = s.c;
+    let t = s.t;
+    let d = s.d;
+    let k = s.k;
+    let mut left = s.left;
+    let mut counter = s.counter;
+    let mut late = s.late;
+    let mut count = s.count;
+    let mut names = s.names;
+    let mut sizes = s.sizes;
+    let mut hard = s.hard;
+    let mut given = s.given;
+    let mut empty = s.empty;
+    let mut gone = s.lost;
+    let rows = kept::rows_legal(n, &c, &t, &d, &k, &left, &counter);
+    let run = legal::run_legal(n, next, &late, hard, given, empty, gone);
+    let queue = queue::is_proper(count, &names, &sizes);
+    let ok = both(both(rows, run), queue);
     let u = legal::slot_refusal(ok, next);
-    let mut answer = in_numbers(refused(u));
+    let mut answer = refused(u);
     if u == 0 {
         let ran = next - 1;
-        let k = r.k;
-        let left = r.left;
-        rows::reload(&mut r.counter, &left, &k, n);
-        let marks = marks::mark(&r.t, &r.d, n, ran);
-        let c = r.c;
-        rows::release(&mut r.left, &c, marks.due);
-        let choice = uses::choose(&r.left, &r.counter, r.count, n);
-        let name = r.names[0];
-        let used = uses::used_for(gone, choice, name);
-        let on = uses::is_given(used);
-        let size = r.sizes[0];
-        let done = queue::is_last(on, size);
-        rows::charge(&mut r.counter, n, uses::charges(choice, gone));
-        rows::work(&mut r.left, uses::row_served(used));
-        queue::lower(&mut r.sizes, on);
-        queue::shift(&mut r.sizes, done);
-        queue::shift(&mut r.names, done);
-        let count = queue::fewer(r.count, done);
-        r.count = count;
-        let w = marks::late_word(&r.left, marks.end);
-        late::drop_late(&mut r.left, w);
-        late::count_late(&mut r.late, w);
-        tally(&mut r.hard, uses::is_hard(used));
-        tally(&mut r.given, on);
-        tally(&mut r.empty, uses::is_empty(used));
-        tally(&mut r.lost, uses::is_lost(used));
-        r.next = next + 1;
-        answer = in_numbers(answered(used, w));
+        // 1. Reload
+        rows::reload(&mut counter, &left, &k, n);
+        // 2. Release
+        let marks = marks::mark(&t, &d, n, ran);
+        rows::release(&mut left, &c, marks.due);
+        // 3. Use
+        let choice = uses::choose(&left, &counter, count, n);
+        let away = is_on(lost);
+        let used = uses::used_for(away, choice, names[0]);
+        rows::charge(&mut counter, n, uses::charges(choice, away));
+        rows::work(&mut left, uses::row_served(used));
+        let served = uses::is_given(used);
+        let done = queue::is_last(served, sizes[0]);
+        queue::lower(&mut sizes, served);
+        queue::shift(&mut sizes, done);
+        queue::shift(&mut names, done);
+        count = queue::fewer(count, done);
+        // 4. Lateness
+        let w = marks::late_word(&left, marks.end);
+        late::drop_late(&mut left, w);
+        late::count_late(&mut late, w);
+        // 5. Tally and clock
+        hard = late::count_up(hard, uses::is_hard(used));
+        given = late::count_up(given, served);
+        empty = late::count_up(empty, uses::is_empty(used));
+        gone = late::count_up(gone, uses::is_lost(used));
+        next = late::count_up(next, true);
+        answer = answered(used, w);
     }
     SlotSaid {
-        state: r,
+        state: State {
+            n: n,
+            next: next,
+            c: c,
+            t: t,
+            d: d,
+            k: k,
+            left: left,
+            counter: counter,
+            late: late,
+            count: count,
+            names: names,
+            sizes: sizes,
+            hard: hard,
+            given: given,
+            empty: empty,
+            lost: gone,
+        },
         answer: answer,
     }
 }
@@ -285,44 +286,54 @@ pub fn slot(s: State, lost: bool) -> Slotted
     }
 }
 
-// For the calls that may copy a state; the slot asks for itself.
-fn is_legal(s: State) -> bool
-    ensures { λ r. ⌜ r ≡ legal s ⌝ }
-{
-    legal::is_legal(
-        s.n,
-        s.next,
-        &s.c,
-        &s.t,
-        &s.d,
-        &s.k,
-        &s.left,
-        &s.counter,
-        &s.late,
-        s.count,
-        &s.names,
-        &s.sizes,
-        s.hard,
-        s.given,
-        s.empty,
-        s.lost,
-    )
-}
-
 pub fn request(s: State, name: u16, size: u16) -> Requested
     ensures { λ r. ⌜ r ≡ requestOf s name size ⌝ }
 {
-    let ok = is_legal(s);
-    let mut r = s;
-    let count = r.count;
+    let n = s.n;
+    let next = s.next;
+    let c = s.c;
+    let t = s.t;
+    let d = s.d;
+    let k = s.k;
+    let left = s.left;
+    let counter = s.counter;
+    let late = s.late;
+    let mut count = s.count;
+    let mut names = s.names;
+    let mut sizes = s.sizes;
+    let hard = s.hard;
+    let given = s.given;
+    let empty = s.empty;
+    let gone = s.lost;
+    let rows = kept::rows_legal(n, &c, &t, &d, &k, &left, &counter);
+    let run = legal::run_legal(n, next, &late, hard, given, empty, gone);
+    let queue = queue::is_proper(count, &names, &sizes);
+    let ok = both(both(rows, run), queue);
     let u = legal::request_refusal(ok, size, count);
     if u == 0 {
-        queue::put(&mut r.names, count, name);
-        queue::put(&mut r.sizes, count, size);
-        r.count = count + 1;
+        queue::put(&mut names, count, name);
+        queue::put(&mut sizes, count, size);
+        count = count + 1;
     }
     Requested {
-        state: r,
+        state: State {
+            n: n,
+            next: next,
+            c: c,
+            t: t,
+            d: d,
+            k: k,
+            left: left,
+            counter: counter,
+            late: late,
+            count: count,
+            names: names,
+            sizes: sizes,
+            hard: hard,
+            given: given,
+            empty: empty,
+            lost: gone,
+        },
         number: u,
     }
 }
@@ -330,7 +341,26 @@ pub fn request(s: State, name: u16, size: u16) -> Requested
 pub fn late_total(s: State) -> Summed
     ensures { λ r. ⌜ r ≡ lateTotalOf s ⌝ }
 {
-    let ok = is_legal(s);
+    let n = s.n;
+    let next = s.next;
+    let c = s.c;
+    let t = s.t;
+    let d = s.d;
+    let k = s.k;
+    let left = s.left;
+    let counter = s.counter;
+    let late = s.late;
+    let count = s.count;
+    let names = s.names;
+    let sizes = s.sizes;
+    let hard = s.hard;
+    let given = s.given;
+    let empty = s.empty;
+    let gone = s.lost;
+    let rows = kept::rows_legal(n, &c, &t, &d, &k, &left, &counter);
+    let run = legal::run_legal(n, next, &late, hard, given, empty, gone);
+    let queue = queue::is_proper(count, &names, &sizes);
+    let ok = both(both(rows, run), queue);
     if !ok {
         return Summed {
             number: 11,
@@ -339,6 +369,6 @@ pub fn late_total(s: State) -> Summed
     }
     Summed {
         number: 0,
-        total: late::late_total(&s.late),
+        total: late::late_total(&late),
     }
 }

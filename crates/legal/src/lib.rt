@@ -4,8 +4,8 @@ ghost use mathlib.Core.Path.{_≡_};
 ghost use mathlib.Core.Bool.{cond, _&&_};
 ghost use Prim.Native.Nat.{suc, _+_, _-_};
 ghost use lib.Dec.{eqb, leb};
-ghost use Rattle.kept.specs.Kept.{tableLegal, rowsKept, latesKept};
-ghost use Rattle.legal.specs.Legal.{lastSlot, clockLegal, figuresLegal};
+ghost use Rattle.kept.specs.Kept.{latesKept};
+ghost use Rattle.legal.specs.Legal.{lastSlot, clockLegal};
 use seq::both;
 
 // One less, and 0 stays.
@@ -39,33 +39,23 @@ fn clock_legal(next: u64) -> bool
     both(1 <= next, next <= 281474976710657)
 }
 
-// All figures of a state. Sixteen of them and no State, so that none is copied.
-pub fn is_legal<'a>(
+// What a state has of its run so far. Its rows and its queue are tested where they live (`kept`, `queue`): each test takes the few
+// arrays that it looks at, so that the compiler can put it in place and copies none of them.
+pub fn run_legal(
     n: usize,
     next: u64,
-    c: &'a [u16; 16],
-    t: &'a [u16; 16],
-    d: &'a [u16; 16],
-    k: &'a [u16; 16],
-    left: &'a [u16; 16],
-    counter: &'a [u16; 16],
-    late: &'a [u64; 16],
-    count: usize,
-    names: &'a [u16; 32],
-    sizes: &'a [u16; 32],
+    late: &[u64; 16],
     hard: u64,
     given: u64,
     empty: u64,
     lost: u64,
 ) -> bool
-    ensures { λ r. ⌜ r ≡ figuresLegal n next (now (c .entry)) (now (t .entry)) (now (d .entry)) (now (k .entry)) (now (left .entry)) (now (counter .entry)) (now (late .entry)) count (now (names .entry)) (now (sizes .entry)) hard given empty lost ⌝ }
+    ensures { λ r. ⌜ r ≡ (latesKept n (next - 1) (now (late .entry)) && eqb (hard + given + empty + lost) (next - 1) && clockLegal next) ⌝ }
 {
     let ran = before(next);
-    let rows = kept::rows_legal(n, c, t, d, k, left, counter);
     let lates = kept::lates_kept(n, ran, late);
-    let b = tallies_legal(ran, hard, given, empty, lost);
-    let q = queue::is_proper(count, names, sizes);
-    both(both(both(both(rows, lates), b), clock_legal(next)), q)
+    let tallies = tallies_legal(ran, hard, given, empty, lost);
+    both(both(lates, tallies), clock_legal(next))
 }
 
 // 11, 10 or 0.

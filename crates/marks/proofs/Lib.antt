@@ -1,2 +1,3 @@
+pub mod Down
 pub mod Points
 pub mod Outcomes

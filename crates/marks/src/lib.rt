@@ -32,25 +32,33 @@ fn with_bit(w: u16, i: usize, on: bool) -> u16
     if on { w | (1 << i) } else { w }
 }
 
+// The word one place up, with a new bit 0, where its top place is free.
+fn pushed(w: u16, on: bool) -> u16
+    requires { ⌜ w < 2 ^ 15 ⌝ }
+    ensures { λ r. ⌜ r ≡ flag on + 2 * w ⌝ }
+{
+    if on { (w << 1) | 1 } else { w << 1 }
+}
+
 pub struct Marks {
     pub due: u16,
     pub end: u16,
 }
 
-// After m slots: the rows whose period begins in the next, and those whose deadline ends with it. One remainder a row.
+// After m slots: the rows whose period begins in the next, and those whose deadline ends with it. One remainder a row, and from
+// the last row on, so that no bit has to be placed.
 pub fn mark<'a>(t: &'a [u16; 16], d: &'a [u16; 16], n: usize, m: u64) -> Marks
     ensures { λ r. ⌜ r ≡ record { due = dueWord m n (now (t .entry)); end = endWord m n (now (t .entry)) (now (d .entry)) } ⌝ }
 {
-    let top = lesser(n, 16);
     let mut due: u16 = 0;
     let mut end: u16 = 0;
-    let mut i = 0;
-    while i < top {
+    let mut i = lesser(n, 16);
+    while 0 < i {
+        i -= 1;
         let r = remainder(m, wide(t[i]));
         let last = wide(less(d[i]));
-        due = with_bit(due, i, r == 0);
-        end = with_bit(end, i, r == last);
-        i += 1;
+        due = pushed(due, r == 0);
+        end = pushed(end, r == last);
     }
     Marks { due: due, end: end }
 }

@@ -7,7 +7,7 @@ use native.Mathlib.Numerals.{add-one}
 use native.Mathlib.Omega.{arith}
 use native.Mathlib.Nat.{pow-suc, mul-comm, mul-assoc, add-zero, div-div-eq-div-mul, div-eq-of-lt, lt-of-lt-of-le}
 use lib.ListN.{length, getD, List·getD-eq-default}
-use lib.Bits.{bitOr, or-shifted-r}
+use lib.Bits.{bitOr, or-shifted, or-shifted-r}
 use lib.Pow.{pow-pos, pow-mono, shl-exact}
 use lib.Count.{ones, ones-step, leading-length}
 use lib.Dec.{eqb}
@@ -52,7 +52,7 @@ unfolding word
 word-append [] b = omega arith
 word-append (x ∷ a) b = rw (word-append a b, pow-suc 2 (length a), mul-comm (2 ^ length a) 2, mul-assoc) (omega arith)
 
-word-lt : (l : List Bool) → word l < 2 ^ length l
+pub word-lt : (l : List Bool) → word l < 2 ^ length l
 unfolding word
 word-lt [] = omega arith
 word-lt (b ∷ l) = rw (pow-suc 2 (length l)) (omega (arith, word-lt l, flag-le b))
@@ -73,6 +73,12 @@ tab-bit-past n f i h = rw (word-bit (tab n f) i) (List·getD-eq-default (tab n f
 
 pub or-bit : (w i : ℕ) → w < 2 ^ i → i < 16 → bitOr w (1 * 2 ^ i % 2 ^ 16) ≡ w + 2 ^ i
 or-bit w i h l = rw (shl-exact {a = 1} 1 i 16 (omega arith) (omega arith), or-shifted-r 1 i w h) (omega arith)
+
+pub shifted-up : (w : ℕ) → w < 2 ^ 15 → w * 2 ^ 1 % 2 ^ 16 ≡ w * 2 ^ 1
+shifted-up w h = shl-exact {a = w} 15 1 16 h (omega arith)
+
+pub or-low : (w : ℕ) → w < 2 ^ 15 → bitOr (w * 2 ^ 1 % 2 ^ 16) 1 ≡ 1 + 2 * w
+or-low w h = rw (shifted-up w h, or-shifted w 1 1 (omega arith)) (omega arith)
 
 pub bit-zero : (i : ℕ) → bit 0 i ≡ false
 unfolding word
