@@ -3,6 +3,7 @@
 ghost use mathlib.Core.Path.{_≡_};
 ghost use mathlib.Core.Bool.{_&&_, not};
 ghost use Rattle.seq.specs.Places.{flag};
+ghost use Rattle.rows.specs.Rows.{noneZero};
 ghost use Rattle.uses.specs.Numbers.{useNumber, useRow, useName, useWho, useTold};
 ghost use Rattle.uses.specs.Uses.{chosen, isGive, isAudio, isIdle, audioRow, chosenUse, usedFor, rowServed, isHard, isGiven, isEmpty, isLost};
 use seq::both;
@@ -25,12 +26,22 @@ pub enum Use {
     Lost,
 }
 
+// The counters are looked at only where a request waits.
+fn may_give(waits: bool, counter: &[u16; 16], n: usize) -> bool
+    ensures { λ r. ⌜ r ≡ (waits && noneZero n (now (counter .entry))) ⌝ }
+{
+    if !waits {
+        return false;
+    }
+    rows::none_zero(counter, n)
+}
+
 // The head request if no counter is 0, else the first row with work left, else the head in the background.
 pub fn choose<'a>(left: &'a [u16; 16], counter: &'a [u16; 16], count: usize, n: usize) -> Choice
     ensures { λ r. ⌜ r ≡ chosen n count (now (left .entry)) (now (counter .entry)) ⌝ }
 {
     let waits = 0 < count;
-    let give = both(waits, rows::none_zero(counter, n));
+    let give = may_give(waits, counter, n);
     if give {
         return Choice::Give;
     }

@@ -1,62 +1,46 @@
 -- `uses::choose` meets its contract. Assumes nothing.
-use Rattle.uses.specs.Uses.{chosen}
+use mathlib.Core.Path.{_≡_, sym, _∙_}
+use mathlib.Core.Bool.{false}
 use native.Mathlib.Numerals.{add-one}
 use native.Mathlib.Omega.{arith}
-use borrow.Author.Tests.{lt-ltb, le-ltb}
-use mathlib.Core.Path.{sym, _∙_}
+use lib.Dec.{ltb}
 use borrow.Author.Needs.{needs}
+use borrow.Author.Tests.{lt-ltb, le-ltb}
+use Rattle.uses.specs.Uses.{chosen}
 use Rattle.uses.proofs.choose.Statement.{statement}
 use Rattle.uses.proofs.choose.Tie as tie
 
-none-zero-requires : tie.Need-none-zero-requires
-none-zero-requires c κs = search needs
-
-both-requires : tie.Need-both-requires
-both-requires c κs = search needs
-
 returns : tie.Need-returns
 unfolding chosen
-returns c =
-    let e = rw (c .before .before .none-zero .ensures) at (c .before .both .ensures) in
-    rw (sym e ∙ c .if1 .taken)
-
-idle-rows-requires : tie.Need-idle-rows-requires
-idle-rows-requires c κs = search needs
-
-lesser-requires : tie.Need-lesser-requires
-lesser-requires c κs = search needs
-
-add-t10 : tie.Need-add-t10
-add-t10 c = search needs
+returns c = rw (sym (c .before .may-give .ensures) ∙ c .if1 .taken)
 
 returns-2 : tie.Need-returns-2
 unfolding chosen
 returns-2 c =
-    let e = rw (c .before .before .before .before .before .none-zero .ensures) at (c .before .before .before .before .both .ensures) in
-    rw (sym e ∙ c .before .before .before .if1 .left, ← c .before .before .idle-rows .ensures, ← c .before .lesser .ensures, lt-ltb _ _ (c .if2 .taken), add-one)
+    let rows = c .before in
+    let idle = rows .before in
+    let not-given = idle .before in
+    rw (sym (not-given .before .may-give .ensures) ∙ not-given .if1 .left, ← idle .idle-rows .ensures, ← rows .lesser .ensures, lt-ltb _ _ (c .if2 .taken), add-one)
+
+-- no row has work left
+none-left : (c : tie.Else2) → ltb (c .before .before .idle-rows .result) (c .before .lesser .result) ≡ false
+none-left c = le-ltb (c .before .before .idle-rows .result) (c .before .lesser .result) (omega arith)
 
 returns-3 : tie.Need-returns-3
 unfolding chosen
 returns-3 c =
-    let e = rw (c .before .before .before .before .before .before .none-zero .ensures) at (c .before .before .before .before .before .both .ensures) in
-    rw (sym e ∙ c .before .before .before .before .if1 .left, ← c .before .before .before .idle-rows .ensures, ← c .before .before .lesser .ensures, le-ltb (c .before .before .before .idle-rows .result) (c .before .before .lesser .result) (omega arith), c .if3 .taken)
+    let rows = c .before .before in
+    let idle = rows .before in
+    let not-given = idle .before in
+    rw (sym (not-given .before .may-give .ensures) ∙ not-given .if1 .left, ← idle .idle-rows .ensures, ← rows .lesser .ensures, none-left (c .before), c .if3 .taken)
 
 returns-4 : tie.Need-returns-4
 unfolding chosen
 returns-4 c =
-    let e = rw (c .before .before .before .before .before .before .none-zero .ensures) at (c .before .before .before .before .before .both .ensures) in
-    rw (sym e ∙ c .before .before .before .before .if1 .left, ← c .before .before .before .idle-rows .ensures, ← c .before .before .lesser .ensures, le-ltb (c .before .before .before .idle-rows .result) (c .before .before .lesser .result) (omega arith), c .if3 .left)
+    let rows = c .before .before in
+    let idle = rows .before in
+    let not-given = idle .before in
+    rw (sym (not-given .before .may-give .ensures) ∙ not-given .if1 .left, ← idle .idle-rows .ensures, ← rows .lesser .ensures, none-left (c .before), c .if3 .left)
 
 pub choose-spec : {M : Type 1} → statement M
-choose-spec =
-    tie.close
-    (tie.spec
-    none-zero-requires
-    both-requires
-    returns
-    idle-rows-requires
-    lesser-requires
-    add-t10
-    returns-2
-    returns-3
-    returns-4)
+choose-spec = tie.close (tie.spec (λ c κs. tt) returns (λ c κs. tt) (λ c κs. tt) (λ c. search needs) returns-2 returns-3 returns-4)
