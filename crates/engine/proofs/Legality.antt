@@ -1,6 +1,6 @@
 -- What a legal state is known by, and the tests that tell it.
 use mathlib.Core.Path.{_≡_, refl}
-use mathlib.Core.Bool.{Bool, true, false, cond, _&&_, and-assoc}
+use mathlib.Core.Bool.{Bool, true, false, cond, _&&_}
 use Prim.Native.Nat.{ℕ, suc, _+_, _-_, _≤_, _<_}
 use native.Mathlib.Omega.{arith}
 use lib.Dec.{eqb, leb}
@@ -11,6 +11,7 @@ use Rattle.late.proofs.Counts.{Within}
 use Rattle.kept.proofs.Kept.{lates-within}
 use Rattle.legal.specs.Legal.{lastSlot, clockLegal, figuresLegal}
 use Rattle.kept.specs.Kept.{tableLegal}
+use Rattle.legal.proofs.Parts.{parts}
 use Rattle.queue.specs.Queue.{proper}
 use Rattle.engine.specs.declared.State.{State}
 use Rattle.engine.specs.Legal.{ran, legal}
@@ -63,8 +64,10 @@ pub parts-legal :
     → both ≡ (rows && run)
     → ok ≡ (both && queue)
     → ok ≡ legal s
-unfolding legal figuresLegal
-parts-legal s e-rows e-run e-queue e-both e-ok = rw (e-ok, e-both, e-queue, e-run, e-rows) (simp and-assoc)
+unfolding legal
+parts-legal s e-rows e-run e-queue e-both e-ok =
+    rw (e-ok, e-both, e-queue, e-run, e-rows)
+    (parts (s .n) (s .next) (s .c) (s .t) (s .d) (s .k) (s .left) (s .counter) (s .late) (s .count) (s .names) (s .sizes) (s .hard) (s .given) (s .empty) (s .lost))
 
 -- a refusal that is 0
 unrefused : (b z : Bool) → _≡_ {A = ℕ} (cond b (cond z 10 0) 11) 0 → (b ≡ true) × (z ≡ false)

@@ -113,14 +113,15 @@ module _ (s : State) (g : Legal s) (names-long : length (s .names) ≡ 32) (size
         })
         (record { state = settled s lost; answer = saidOf (answered s lost) })
     unfolding settled answered with-figures lateOf useOf choiceOf left₁ counter₁ leftJudged lates leftUsed leftReleased
-    ran-is {w = w} {on = on} {ih = ih} {ie = ie} {il = il} e-m e-k e-b e-l e-x e-v e-pays e-k2 e-row e-l2 e-on e-dn e-z e-z2 e-names e-count e-w e-l3 e-late e-ih e-hard e-given e-ie e-empty e-il e-gone e-next e-a =
+    ran-is {w = w} {k₁ = k₁} {on = on} {ih = ih} {ie = ie} {il = il} e-m e-k e-b e-l e-x e-v e-pays e-k2 e-row e-l2 e-on e-dn e-z e-z2 e-names e-count e-w e-l3 e-late e-ih e-hard e-given e-ie e-empty e-il e-gone e-next e-a =
+        let k : k₁ ≡ counter₁ s = e-k in
         let due = ap (λ (q : Marks). q .due) e-b in
         let end = ap (λ (q : Marks). q .end) e-b in
         let t = g .tallies in
         let places = served-places on e-dn e-z e-z2 e-names e-count in
         rw (
           ← e-m,
-          ← e-k,
+          ← k,
           ← due,
           ← end,
           ← e-l,

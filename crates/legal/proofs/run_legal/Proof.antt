@@ -1,25 +1,8 @@
 -- `legal::run_legal` meets its contract. Assumes nothing.
-use borrow.Author.Needs.{needs}
+use mathlib.Core.Path.{ap₂, _∙_}
+use mathlib.Core.Bool.{_&&_}
 use Rattle.legal.proofs.run_legal.Statement.{statement}
 use Rattle.legal.proofs.run_legal.Tie as tie
-
-before-requires : tie.Need-before-requires
-before-requires c κs = tt
-
-lates-kept-requires : tie.Need-lates-kept-requires
-lates-kept-requires c κs = tt
-
-tallies-legal-requires : tie.Need-tallies-legal-requires
-tallies-legal-requires c κs = tt
-
-both-requires : tie.Need-both-requires
-both-requires c κs = tt
-
-clock-legal-requires : tie.Need-clock-legal-requires
-clock-legal-requires c κs = tt
-
-both-requires-2 : tie.Need-both-requires-2
-both-requires-2 c κs = tt
 
 returns : tie.Need-returns
 returns c =
@@ -27,16 +10,17 @@ returns c =
     let both = clock .before in
     let tallies = both .before in
     let lates = tallies .before in
-    rw (c .both2 .ensures, clock .clock-legal .ensures, both .both .ensures, tallies .tallies-legal .ensures, lates .lates-kept .ensures, lates .before .before2 .ensures)
+    rw (← lates .before .before2 .ensures)
+    (c .both2 .ensures ∙ ap₂ _&&_ (both .both .ensures ∙ ap₂ _&&_ (lates .lates-kept .ensures) (tallies .tallies-legal .ensures)) (clock .clock-legal .ensures))
 
 pub run-legal-spec : {M : Type 1} → statement M
 run-legal-spec =
     tie.close
     (tie.spec
-    before-requires
-    lates-kept-requires
-    tallies-legal-requires
-    both-requires
-    clock-legal-requires
-    both-requires-2
+    (λ c κs. tt)
+    (λ c κs. tt)
+    (λ c κs. tt)
+    (λ c κs. tt)
+    (λ c κs. tt)
+    (λ c κs. tt)
     returns)

@@ -1,4 +1,5 @@
 -- `marks::with_bit` meets its contract. Assumes nothing.
+use Prim.Native.Nat.{_^_}
 use native.Mathlib.Nat.{add-zero, mul-one, mul-zero}
 use borrow.Author.Needs.{needs}
 use Rattle.seq.proofs.Words.{or-bit}
@@ -14,7 +15,7 @@ shl-result c = search needs
 returns : tie.Need-returns
 returns c =
     let s = c .before in
-    rw (c .if1 .taken, or-bit (s .args .w) (s .args .i) (s .pre .1) (s .pre .0), mul-one)
+    rw (c .if1 .taken, mul-one (2 ^ s .args .i)) (or-bit (s .args .w) (s .args .i) (s .pre .1) (s .pre .0))
 
 returns-2 : tie.Need-returns-2
 returns-2 c = rw (c .if1 .left, mul-zero, add-zero)
