@@ -90,8 +90,8 @@ fn answered(used: Use, w: u16) -> Said
         number: 0,
         used: number,
         word: w,
-        late: late,
-        who: who,
+        late,
+        who,
     }
 }
 
@@ -114,7 +114,7 @@ fn in_cases(a: Said, name: u16) -> Answer
     let used = uses::use_told(a.used, a.who, name);
     Answer {
         number: a.number,
-        used: used,
+        used,
         word: a.word,
         late: a.late,
     }
@@ -134,11 +134,11 @@ fn blank(next: u64, x: Table, k: [u16; 16]) -> State
     let d = x.d;
     State {
         n: x.n,
-        next: next,
-        c: c,
-        t: t,
-        d: d,
-        k: k,
+        next,
+        c,
+        t,
+        d,
+        k,
         left: [0; 16],
         counter: [0; 16],
         late: [0; 16],
@@ -206,10 +206,12 @@ pub fn slot_said(s: State, lost: u8) -> SlotSaid
     let mut given = s.given;
     let mut empty = s.empty;
     let mut gone = s.lost;
+
     let rows = kept::rows_legal(n, &c, &t, &d, &k, &left, &counter);
     let run = legal::run_legal(n, next, &late, hard, given, empty, gone);
     let queue = queue::is_proper(count, &names, &sizes);
     let ok = both(both(rows, run), queue);
+
     let u = legal::slot_refusal(ok, next);
     let mut answer = refused(u);
     if u == 0 {
@@ -243,26 +245,27 @@ pub fn slot_said(s: State, lost: u8) -> SlotSaid
         next = late::count_up(next, true);
         answer = answered(used, w);
     }
+
     SlotSaid {
         state: State {
-            n: n,
-            next: next,
-            c: c,
-            t: t,
-            d: d,
-            k: k,
-            left: left,
-            counter: counter,
-            late: late,
-            count: count,
-            names: names,
-            sizes: sizes,
-            hard: hard,
-            given: given,
-            empty: empty,
+            n,
+            next,
+            c,
+            t,
+            d,
+            k,
+            left,
+            counter,
+            late,
+            count,
+            names,
+            sizes,
+            hard,
+            given,
+            empty,
             lost: gone,
         },
-        answer: answer,
+        answer,
     }
 }
 
@@ -280,10 +283,7 @@ pub fn slot(s: State, lost: bool) -> Slotted
     let r = slot_said(s, byte(lost));
     let answer = in_cases(r.answer, name);
     let state = r.state;
-    Slotted {
-        state: state,
-        answer: answer,
-    }
+    Slotted { state, answer }
 }
 
 pub fn request(s: State, name: u16, size: u16) -> Requested
@@ -305,33 +305,36 @@ pub fn request(s: State, name: u16, size: u16) -> Requested
     let given = s.given;
     let empty = s.empty;
     let gone = s.lost;
+
     let rows = kept::rows_legal(n, &c, &t, &d, &k, &left, &counter);
     let run = legal::run_legal(n, next, &late, hard, given, empty, gone);
     let queue = queue::is_proper(count, &names, &sizes);
     let ok = both(both(rows, run), queue);
+
     let u = legal::request_refusal(ok, size, count);
     if u == 0 {
         queue::put(&mut names, count, name);
         queue::put(&mut sizes, count, size);
         count = count + 1;
     }
+
     Requested {
         state: State {
-            n: n,
-            next: next,
-            c: c,
-            t: t,
-            d: d,
-            k: k,
-            left: left,
-            counter: counter,
-            late: late,
-            count: count,
-            names: names,
-            sizes: sizes,
-            hard: hard,
-            given: given,
-            empty: empty,
+            n,
+            next,
+            c,
+            t,
+            d,
+            k,
+            left,
+            counter,
+            late,
+            count,
+            names,
+            sizes,
+            hard,
+            given,
+            empty,
             lost: gone,
         },
         number: u,
@@ -357,10 +360,12 @@ pub fn late_total(s: State) -> Summed
     let given = s.given;
     let empty = s.empty;
     let gone = s.lost;
+
     let rows = kept::rows_legal(n, &c, &t, &d, &k, &left, &counter);
     let run = legal::run_legal(n, next, &late, hard, given, empty, gone);
     let queue = queue::is_proper(count, &names, &sizes);
     let ok = both(both(rows, run), queue);
+
     if !ok {
         return Summed {
             number: 11,

@@ -60,7 +60,7 @@ pub fn mark<'a>(t: &'a [u16; 16], d: &'a [u16; 16], n: usize, m: u64) -> Marks
         due = pushed(due, r == 0);
         end = pushed(end, r == last);
     }
-    Marks { due: due, end: end }
+    Marks { due, end }
 }
 
 pub fn late_word(left: &[u16; 16], end: u16) -> u16
