@@ -104,7 +104,7 @@ fn audio_row(choice: Choice) -> usize
     }
 }
 
-// Tests and no match with four ways, of which the compiler would make a jump that keeps it from joining copies of the state.
+// Tests and no match with four ways, of which the compiler would make a jump through a table.
 fn chosen_use(choice: Choice, name: u16) -> Use
     ensures { λ r. ⌜ r ≡ chosenUse choice name ⌝ }
 {

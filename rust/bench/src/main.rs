@@ -6,6 +6,9 @@
 //! comes to lie changes its times, so the rounds are made in several runs of
 //! the program. What is printed are medians: of the rounds of a run, then of
 //! the runs.
+//!
+//! `bench/count` counts instructions instead, which are the same on every
+//! machine.
 
 mod listing;
 mod slots;
@@ -22,15 +25,25 @@ const ROUNDS: usize = 32;
 const ONCE: &str = "once";
 
 fn main() {
-    let word = std::env::args().nth(1).unwrap_or_default();
+    let words: Vec<String> = std::env::args().skip(1).collect();
+    let word = words.first().cloned().unwrap_or_default();
     match word.as_str() {
         ONCE => measure(),
+        "work" => work(&words[1..]).expect("work SIDE WHAT ROWS CALLS"),
+        "stack" => stack::print(),
         listing::AS_SECOND => listing::second(),
         _ => {
             print(&runs(word.parse().unwrap_or(RUNS)));
             stack::print();
         }
     }
+}
+
+fn work(words: &[String]) -> Option<()> {
+    let [side, what, rows, calls] = words else {
+        return None;
+    };
+    slots::work(side, what, rows.parse().ok()?, calls.parse().ok()?)
 }
 
 fn measure() {

@@ -54,8 +54,8 @@ fn time_slots(what: &str, table: &Table, traffic: Traffic) {
     time_both(
         what,
         SLOTS,
-        || run_proved(&mut proved, traffic),
-        || run_second(&mut second, traffic),
+        || run_proved(&mut proved, traffic, SLOTS),
+        || run_second(&mut second, traffic, SLOTS),
     );
     assert_eq!(proved.names, second.names);
     assert_eq!(
@@ -78,8 +78,8 @@ fn arrivals(traffic: Traffic, i: usize, waiting: usize) -> (usize, u16) {
     }
 }
 
-fn run_proved(state: &mut State, traffic: Traffic) {
-    for i in 0..SLOTS {
+fn run_proved(state: &mut State, traffic: Traffic, slots: usize) {
+    for i in 0..slots {
         let (requests, size) = arrivals(traffic, i, state.count);
         for _ in 0..requests {
             let name = i as u16;
@@ -89,8 +89,8 @@ fn run_proved(state: &mut State, traffic: Traffic) {
     }
 }
 
-fn run_second(state: &mut opinion::State, traffic: Traffic) {
-    for i in 0..SLOTS {
+fn run_second(state: &mut opinion::State, traffic: Traffic, slots: usize) {
+    for i in 0..slots {
         let (requests, size) = arrivals(traffic, i, state.count);
         for _ in 0..requests {
             black_box(opinion::request(state, i as u16, size));
@@ -102,23 +102,52 @@ fn run_second(state: &mut opinion::State, traffic: Traffic) {
 const FILLS: usize = 500;
 
 /// Fills the queue of a fresh state again and again.
+fn fill_proved(start: &State, fills: usize) {
+    for _ in 0..fills {
+        let mut state = start.clone();
+        for name in 0..32 {
+            black_box(unsafe { fjurke_request(&mut state, Ask { name, size: 1 }) });
+        }
+    }
+}
+
+fn fill_second(start: &opinion::State, fills: usize) {
+    for _ in 0..fills {
+        let mut state = start.clone();
+        for name in 0..32 {
+            black_box(opinion::request(&mut state, name, 1));
+        }
+    }
+}
+
 fn time_requests(what: &str, table: &Table) {
     let (proved, second) = starts(table);
-    let fill_proved = || {
-        for _ in 0..FILLS {
-            let mut state = proved.clone();
-            for name in 0..32 {
-                black_box(unsafe { fjurke_request(&mut state, Ask { name, size: 1 }) });
-            }
-        }
+    time_both(
+        what,
+        32 * FILLS,
+        || fill_proved(&proved, FILLS),
+        || fill_second(&second, FILLS),
+    );
+}
+
+/// Has one side make so many calls and does nothing else, so that what they
+/// take can be counted from outside.
+pub fn work(side: &str, what: &str, rows: usize, calls: usize) -> Option<()> {
+    let table = tables().into_iter().find(|table| table.n == rows)?;
+    let (mut proved, mut second) = starts(&table);
+    let traffic = match what {
+        "no traffic" => Some(Traffic::None),
+        "some traffic" => Some(Traffic::Some),
+        "full queue" => Some(Traffic::Full),
+        "requests" => None,
+        _ => return None,
     };
-    let fill_second = || {
-        for _ in 0..FILLS {
-            let mut state = second.clone();
-            for name in 0..32 {
-                black_box(opinion::request(&mut state, name, 1));
-            }
-        }
-    };
-    time_both(what, 32 * FILLS, fill_proved, fill_second);
+    match (side, traffic) {
+        ("proved", Some(traffic)) => run_proved(&mut proved, traffic, calls),
+        ("second", Some(traffic)) => run_second(&mut second, traffic, calls),
+        ("proved", None) => fill_proved(&proved, calls / 32),
+        ("second", None) => fill_second(&second, calls / 32),
+        _ => return None,
+    }
+    Some(())
 }
