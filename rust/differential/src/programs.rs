@@ -12,7 +12,8 @@ pub fn listing_program() -> PathBuf {
     Path::new(env!("CARGO_MANIFEST_DIR")).join("../../target/bin/listing")
 }
 
-/// A command that runs a program made for x86-64, on another processor by the emulator that `EMULATOR` names.
+/// A command that runs a program made for x86-64; on another processor by the
+/// emulator that `EMULATOR` names.
 pub fn command(program: &Path) -> Command {
     match std::env::var_os("EMULATOR") {
         Some(emulator) => {
