@@ -183,8 +183,8 @@ pub fn start(x: Table) -> Started
 }
 
 // Every call on a state goes the same way: each figure into a local of its own, legality in its three parts, the steps on the
-// locals, and a new state of the locals at the end. Nothing refers to the state itself, so the compiler copies no figure that
-// stays.
+// locals, and a new state of the locals at the end. Nothing refers to the state itself, so the compiler never copies it whole,
+// and puts back only what a step changes.
 
 // The steps of document 01 in their order. Whether the slot is lost is asked only after the choice.
 pub fn slot_said(s: State, lost: u8) -> SlotSaid
