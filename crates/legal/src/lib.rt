@@ -40,7 +40,7 @@ fn clock_legal(next: u64) -> bool
 }
 
 // What a state has of its run so far. Its rows and its queue are tested where they live (`kept`, `queue`): each test takes the few
-// arrays that it looks at, so that the compiler can put it in place and copies none of them.
+// arrays that it looks at, so that the compiler can put it in place.
 pub fn run_legal(
     n: usize,
     next: u64,

@@ -7,8 +7,8 @@
 //! the program. What is printed are medians: of the rounds of a run, then of
 //! the runs.
 //!
-//! `bench/count` counts instructions instead, which are the same on every
-//! machine.
+//! `bench/count` counts instructions instead, which do not hang on the pace
+//! of the machine.
 
 mod listing;
 mod slots;

@@ -4,7 +4,6 @@ use mathlib.Core.Bool.{Bool}
 use lib.ListN.{length}
 use borrow.Author.Needs.{needs}
 use borrow.Author.Tests.{ne-eqb}
-use Rattle.engine.specs.declared.State.{State}
 use Rattle.engine.specs.Slot.{slotRefusal, slotOf}
 use Rattle.engine.specs.Said.{isOn}
 use Rattle.engine.proofs.Legality.{parts-legal, slot-tested, slot-legal}

@@ -28,27 +28,21 @@ returns-2 c =
     let not-given = idle .before in
     rw (sym (not-given .before .may-give .ensures) ∙ not-given .if1 .left, ← idle .idle-rows .ensures, ← rows .lesser .ensures, lt-ltb _ _ (c .if2 .taken), add-one)
 
--- no row has work left
-none-left : (c : tie.Else2) → ltb (c .before .before .idle-rows .result) (c .before .lesser .result) ≡ false
-none-left c = le-ltb (c .before .before .idle-rows .result) (c .before .lesser .result) (omega arith)
+-- where no row has work left, what is left to choose is the choice
+idle-choice : (c : tie.Else2) (u : Choice) → let v = c .before .before .before .before .before .args in u ≡ cond (ltb 0 (v .count)) Back Idle → u ≡ chosen (v .n) (v .count) (v .left .now) (v .counter .now)
+unfolding chosen
+idle-choice c u e =
+    let rows = c .before in
+    let idle = rows .before in
+    let not-given = idle .before in
+    let none-left : ltb (idle .idle-rows .result) (rows .lesser .result) ≡ false = le-ltb (idle .idle-rows .result) (rows .lesser .result) (omega arith) in
+    rw (sym (not-given .before .may-give .ensures) ∙ not-given .if1 .left, ← idle .idle-rows .ensures, ← rows .lesser .ensures, none-left) e
 
 returns-3 : tie.Need-returns-3
-unfolding chosen
-returns-3 c =
-    let rows = c .before .before in
-    let idle = rows .before in
-    let not-given = idle .before in
-    rw (sym (not-given .before .may-give .ensures) ∙ not-given .if1 .left, ← idle .idle-rows .ensures, ← rows .lesser .ensures, none-left (c .before))
-    (first _ Back Idle (c .if3 .taken))
+returns-3 c = idle-choice (c .before) Back (first _ Back Idle (c .if3 .taken))
 
 returns-4 : tie.Need-returns-4
-unfolding chosen
-returns-4 c =
-    let rows = c .before .before in
-    let idle = rows .before in
-    let not-given = idle .before in
-    rw (sym (not-given .before .may-give .ensures) ∙ not-given .if1 .left, ← idle .idle-rows .ensures, ← rows .lesser .ensures, none-left (c .before))
-    (ap (λ (b : Bool). cond b Back Idle) (sym (c .if3 .left)))
+returns-4 c = idle-choice (c .before) Idle (ap (λ (b : Bool). cond b Back Idle) (sym (c .if3 .left)))
 
 pub choose-spec : {M : Type 1} → statement M
 choose-spec = tie.close (tie.spec (λ c κs. tt) returns (λ c κs. tt) (λ c κs. tt) (λ c. search needs) returns-2 returns-3 returns-4)
