@@ -1,5 +1,7 @@
 // The test of a table, and the allowances of its rows.
 
+#![tactic(auto)]
+
 ghost use Rattle.std.specs.Prelude.{◌≡◌, ◌+◌, ◌*◌, ◌-◌, ◌≤◌, min, max};
 ghost use Rattle.seq.specs.Places.{at};
 ghost use Rattle.law.specs.Sums.{ceil};
@@ -13,7 +15,7 @@ ghost use Rattle.allowance.specs.Test.{lacking_row, filled, smallest, refused_te
 use table::{Table, Verdict, form};
 
 // k is the smallest of the allowances, `each` has them all. Zero where the table is refused.
-#[derive(Drop)]
+#[derive(Clone, Copy)]
 pub struct Tested {
     pub verdict: Verdict,
     pub k: u16,
@@ -21,7 +23,7 @@ pub struct Tested {
 }
 
 // The largest number that a row holds, if it holds 0.
-#[derive(Drop)]
+#[derive(Clone, Copy)]
 enum Room {
     Most(u16),
     Nothing,

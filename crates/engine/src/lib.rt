@@ -1,5 +1,7 @@
 // The engine: a scheduler state, and what a start, a request, a slot and a late total do to it.
 
+#![tactic(auto)]
+
 ghost use Rattle.std.specs.Prelude.{◌≡◌};
 ghost use Rattle.std.specs.Int.Count.{ones};
 ghost use Rattle.seq.specs.Places.{flag};
@@ -16,7 +18,7 @@ use uses::Use;
 // Of each row its table figures, its allowance, the work left, its counter and its late count; the queue in 32 places; four tallies.
 // Rows past n and places past count are zero. Numbers only, so that C and Rust can lend it.
 #[repr(C)]
-#[derive(Drop)]
+#[derive(Clone, Copy)]
 pub struct State {
     pub n: usize,
     pub next: u64,
@@ -37,7 +39,7 @@ pub struct State {
 }
 
 // Number 0 where the slot was run; bit 0 of the late word for row 1.
-#[derive(Drop)]
+#[derive(Clone, Copy)]
 pub struct Answer {
     pub number: u8,
     pub used: Use,
@@ -45,13 +47,13 @@ pub struct Answer {
     pub late: u32,
 }
 
-#[derive(Drop)]
+#[derive(Clone, Copy)]
 pub struct Started {
     pub verdict: Verdict,
     pub state: State,
 }
 
-#[derive(Drop)]
+#[derive(Clone, Copy)]
 pub struct Slotted {
     pub state: State,
     pub answer: Answer,
@@ -60,7 +62,7 @@ pub struct Slotted {
 // The same in numbers only. used: 0 empty, 1 hard, 2 given, 3 lost. who: the row that got the slot, from 1 on, or the name of
 // the request.
 #[repr(C)]
-#[derive(Drop)]
+#[derive(Clone, Copy)]
 pub struct Said {
     pub number: u8,
     pub used: u8,
@@ -69,19 +71,19 @@ pub struct Said {
     pub who: usize,
 }
 
-#[derive(Drop)]
+#[derive(Clone, Copy)]
 pub struct SlotSaid {
     pub state: State,
     pub answer: Said,
 }
 
-#[derive(Drop)]
+#[derive(Clone, Copy)]
 pub struct Requested {
     pub state: State,
     pub number: u8,
 }
 
-#[derive(Drop)]
+#[derive(Clone, Copy)]
 pub struct Summed {
     pub number: u8,
     pub total: u64,

@@ -1,10 +1,12 @@
 // The input of the listing program: the table's record, and the events behind it, each handed on as a part.
 
+#![tactic(auto)]
+
 ghost use Rattle.std.specs.Prelude.{◌≡◌};
 ghost use Rattle.events.specs.Events.{record_length, record_of, events_of, event_at, width_of};
 
 // Request has the name and the size.
-#[derive(Drop)]
+#[derive(Clone, Copy)]
 pub enum Event {
     End,
     Slot,

@@ -1,5 +1,7 @@
 // The figures of a table and of its rows within their bounds.
 
+#![tactic(auto)]
+
 ghost use Rattle.std.specs.Prelude.{◌≡◌, cond, ◌&&◌, ◌||◌, ◌-◌, min, eqb, ltb, leb};
 ghost use Rattle.seq.specs.Places.{at, every};
 ghost use Rattle.table.specs.Form.{in_order, all_zero, rising};

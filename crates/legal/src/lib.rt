@@ -1,5 +1,7 @@
 // When the figures of a state are legal, and which calls are refused.
 
+#![tactic(auto)]
+
 ghost use Rattle.std.specs.Prelude.{◌≡◌, cond, ◌&&◌, suc, ◌+◌, ◌-◌, eqb, leb};
 ghost use Rattle.kept.specs.Kept.{lates_kept};
 ghost use Rattle.legal.specs.Legal.{last_slot, clock_legal};

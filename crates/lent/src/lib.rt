@@ -1,5 +1,7 @@
 // The face for C and Rust: numbers only. The kernel lends its state and finds the new one in the same place.
 
+#![tactic(auto)]
+
 ghost use Rattle.std.specs.Prelude.{◌≡◌, length};
 ghost use Rattle.record.specs.Record.{read_of, written_of, buffer_of};
 ghost use Rattle.allowance.specs.Test.{test_of};
@@ -14,21 +16,21 @@ use table::Table;
 
 // number: 0, or the refusal. row: the row that it names, from 1 on; 0 for none.
 #[repr(C)]
-#[derive(Drop)]
+#[derive(Clone, Copy)]
 pub struct Told {
     pub number: u8,
     pub row: usize,
 }
 
 #[repr(C)]
-#[derive(Drop)]
+#[derive(Clone, Copy)]
 pub struct Ask {
     pub name: u16,
     pub size: u16,
 }
 
 #[repr(C)]
-#[derive(Drop)]
+#[derive(Clone, Copy)]
 pub struct Read {
     pub number: u8,
     pub row: usize,
@@ -37,7 +39,7 @@ pub struct Read {
 
 // length: the bytes that the record has, 0 where it was refused.
 #[repr(C)]
-#[derive(Drop)]
+#[derive(Clone, Copy)]
 pub struct Wrote {
     pub number: u8,
     pub row: usize,
@@ -46,7 +48,7 @@ pub struct Wrote {
 
 // k: the common allowance. each: that of each row.
 #[repr(C)]
-#[derive(Drop)]
+#[derive(Clone, Copy)]
 pub struct Tried {
     pub number: u8,
     pub k: u16,
@@ -55,7 +57,7 @@ pub struct Tried {
 }
 
 #[repr(C)]
-#[derive(Drop)]
+#[derive(Clone, Copy)]
 pub struct Began {
     pub number: u8,
     pub row: usize,
@@ -63,13 +65,13 @@ pub struct Began {
 }
 
 #[repr(C)]
-#[derive(Drop)]
+#[derive(Clone, Copy)]
 pub struct Sum {
     pub number: u8,
     pub total: u64,
 }
 
-#[derive(Drop)]
+#[derive(Clone, Copy)]
 pub struct RequestTold {
     pub state: State,
     pub answer: Told,

@@ -1,5 +1,7 @@
 // The lines that the listing prints, as bytes.
 
+#![tactic(auto)]
+
 ghost use Rattle.std.specs.Prelude.{◌≡◌};
 ghost use Rattle.text.specs.Text.{line_of, extended};
 ghost use Rattle.lines.specs.Lines.{spaced, use_text, slot_line, refused_line, bad_line, total_line, long_line};

@@ -1,5 +1,7 @@
 // The listing program: bytes in, lines out. What is printed is decided in `report`; here bytes are only moved.
 
+#![tactic(auto)]
+
 ghost use Rattle.std.specs.Prelude.{◌+◌, ◌≤◌, length};
 
 use engine::State;

@@ -1,5 +1,7 @@
 // Words with a bit for each row, bit 0 for row 1: the rows whose period begins, those whose deadline ends, those that are late.
 
+#![tactic(auto)]
+
 ghost use Rattle.std.specs.Prelude.{◌≡◌, ◌+◌, ◌*◌, ◌^◌, ◌%◌, ◌<◌};
 ghost use Rattle.std.specs.Int.Count.{ones};
 ghost use Rattle.seq.specs.Places.{flag};
@@ -36,7 +38,7 @@ fn pushed(w: u16, on: bool) -> u16
     if on { (w << 1) | 1 } else { w << 1 }
 }
 
-#[derive(Drop)]
+#[derive(Clone, Copy)]
 pub struct Marks {
     pub due: u16,
     pub end: u16,

@@ -1,5 +1,7 @@
 // The record of a table, and how it is read. `writer` writes it.
 
+#![tactic(auto)]
+
 ghost use Rattle.std.specs.Prelude.{◌≡◌, ◌≤◌, length, replicate};
 ghost use Rattle.seq.specs.Places.{at};
 ghost use Rattle.record.specs.Record.{row_place, row_spelt, spelt, head_verdict, read_of};
@@ -7,13 +9,13 @@ ghost use Rattle.record.specs.Record.{row_place, row_spelt, spelt, head_verdict,
 use seq::{big, both, byte, lesser};
 use table::{Table, Verdict, form, refusal};
 
-#[derive(Drop)]
+#[derive(Clone, Copy)]
 pub struct Reading {
     pub verdict: Verdict,
     pub table: Table,
 }
 
-#[derive(Drop)]
+#[derive(Clone, Copy)]
 pub struct Written {
     pub verdict: Verdict,
     pub length: usize,
@@ -42,7 +44,7 @@ fn wide(x: u16) -> usize
     x as usize
 }
 
-#[derive(Drop)]
+#[derive(Clone, Copy)]
 struct Row {
     c: u16,
     t: u16,

@@ -1,5 +1,7 @@
 // What the listing prints: how a run opens, what is said of each event, and the total.
 
+#![tactic(auto)]
+
 ghost use Rattle.std.specs.Prelude.{◌≡◌, true};
 ghost use Rattle.text.specs.Text.{line_of};
 ghost use Rattle.lines.specs.Lines.{refused_line};
@@ -14,14 +16,14 @@ use table::Verdict;
 use text::Line;
 
 // The line may be empty. Where `going` is false no event follows.
-#[derive(Drop)]
+#[derive(Clone, Copy)]
 pub struct Opened {
     pub going: bool,
     pub line: Line,
     pub state: State,
 }
 
-#[derive(Drop)]
+#[derive(Clone, Copy)]
 pub struct Heard {
     pub going: bool,
     pub line: Line,

@@ -1,5 +1,7 @@
 // Lists, words and bytes: what several crates need and none of them owns.
 
+#![tactic(auto)]
+
 ghost use Rattle.std.specs.Prelude.{◌≡◌, cond, ◌&&◌, ◌||◌, ◌-◌, ◌<◌, min};
 ghost use Rattle.seq.specs.Places.{at};
 ghost use Rattle.seq.specs.Words.{bit, top_of};

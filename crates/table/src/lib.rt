@@ -1,5 +1,7 @@
 // A table of hard periodic tasks: its figures, and when it is well formed.
 
+#![tactic(auto)]
+
 ghost use Rattle.std.specs.Prelude.{◌≡◌, cond, ◌-◌};
 ghost use Rattle.table.specs.Verdicts.{number_of, row_named, refuse, ◌and_then◌};
 ghost use Rattle.table.specs.Form.{in_order, all_zero, unsound_row, falling_row, count_verdict, rows_verdict, periods_verdict, form_verdict};
@@ -8,7 +10,7 @@ use seq::{both, either, lesser};
 
 // Rows in priority order: C slots in each period of T, by the deadline D. Those past n are zero.
 #[repr(C)]
-#[derive(Drop)]
+#[derive(Clone, Copy)]
 pub struct Table {
     pub n: usize,
     pub c: [u16; 16],
@@ -17,7 +19,7 @@ pub struct Table {
 }
 
 // Refused with its number and the row it names, from 1 on; 0 names none.
-#[derive(Drop)]
+#[derive(Clone, Copy)]
 pub enum Verdict {
     Taken,
     Refused(u8, usize),

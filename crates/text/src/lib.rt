@@ -1,19 +1,21 @@
 // A line of bytes: text and numbers behind one another, and a line in a buffer.
 
+#![tactic(auto)]
+
 ghost use Rattle.std.specs.Prelude.{◌≡◌, [], ◌+◌, ◌-◌, ◌≤◌, min, leb, length, drop};
 ghost use Rattle.std.proofs.lemmas.List.Edits.{sets};
 ghost use Rattle.text.specs.Text.{decimal, line_of, extended, said, with_text, behind};
 
 use seq::lesser;
 
-#[derive(Drop)]
+#[derive(Clone, Copy)]
 pub struct Line {
     pub bytes: [u8; 128],
     pub length: usize,
 }
 
 // A number's digits stand in the last places, since the last digit is found first.
-#[derive(Drop)]
+#[derive(Clone, Copy)]
 struct Spelled {
     bytes: [u8; 20],
     from: usize,

@@ -1,5 +1,7 @@
 // Who should have a slot, and what it was used for.
 
+#![tactic(auto)]
+
 ghost use Rattle.std.specs.Prelude.{◌≡◌, ◌&&◌, not};
 ghost use Rattle.seq.specs.Places.{flag};
 ghost use Rattle.rows.specs.Rows.{none_zero};
@@ -10,7 +12,7 @@ use seq::{both, lesser};
 
 // Who should have a slot: the head request, the first row with work left by its number from 1 on, the head request in the
 // background, or nobody.
-#[derive(Drop)]
+#[derive(Clone, Copy)]
 pub enum Choice {
     Give,
     Hard(usize),
@@ -19,7 +21,7 @@ pub enum Choice {
 }
 
 // What a slot was used for: a row by its number from 1 on, a request by its name.
-#[derive(Drop)]
+#[derive(Clone, Copy)]
 pub enum Use {
     Hard(usize),
     Given(u16),

@@ -1,0 +1,13 @@
+use Rattle.std.proofs.Common.{◌≡◌, ◌-◌, ◌<◌, ◌≤◌, refl, ◌∙◌, arith, rules}
+use Rattle.seq.specs.Places.{at, over}
+use Rattle.seq.specs.Words.{bit, top_of}
+use Rattle.seq.proofs.Places.{over_more, over_at, over_stop}
+use Rattle.seq.proofs.Words.{top_clear}
+use Rattle.late.specs.Late.{raised, up}
+use Rattle.late.proofs.count_late.Given as goal
+
+abbrev pub invariant-loop-i : goal.invariant-loop-i
+invariant-loop-i l = (l.i ≤ l.m) × (l.m ≡ top_of l.w) × (l.late ≡ over l.i (λ j x. up (bit l.w j) x) l.initial.late)
+
+abbrev pub decreases-loop-i : goal.decreases-loop-i
+decreases-loop-i l = l.m - l.i

@@ -1,0 +1,50 @@
+use mathlib.Core.Path.{◌≡◌}
+use mathlib.Core.List.{List}
+use Prim.Native.Nat.{ℕ, suc, ◌-◌, ◌≤◌, ◌<◌}
+use native.Mathlib.Omega.{arith}
+use borrow.Author.Rules.{rules}
+use Rattle.seq.specs.Places.{at}
+use Rattle.rows.specs.Rows.{rows_of}
+use Rattle.marks.specs.Words.{begins, ends, due_word, end_word}
+use Rattle.marks.proofs.Down.{rest, rest_none, rest_more, rest_low, rest_all}
+use Rattle.marks.proofs.mark.Goals as goal
+
+abbrev due_from : ℕ → ℕ → List ℕ → ℕ → ℕ
+due_from m n t i = rest (rows_of n) (λ j. begins m (at t j)) i
+
+abbrev end_from : ℕ → ℕ → List ℕ → List ℕ → ℕ → ℕ
+end_from m n t d i = rest (rows_of n) (λ j. ends m (at t j) (at d j)) i
+
+pub loop-i-init : goal.loop-i-init
+loop-i-init c =
+    let e = c.lesser-i.ensures in
+    let h : rows_of c.args.n ≤ c.lesser-i.result = omega arith in
+    (omega arith, rw (rest_none _ _ _ h), rw (rest_none _ _ _ h))
+
+pub pushed-due-requires : goal.pushed-due-requires
+pushed-due-requires c =
+    let l = c.loop-i in
+    rw l.invariant.1 (rest_low _ _ l.i (omega arith) (omega arith))
+
+pub pushed-end-requires : goal.pushed-end-requires
+pushed-end-requires c =
+    let l = c.loop-i in
+    rw l.invariant.2 (rest_low _ _ l.i (omega arith) (omega arith))
+
+pub loop-i-preserved : goal.loop-i-preserved
+loop-i-preserved c =
+    let r = c in
+    let l = r.loop-i in
+    let h : l.i - 1 < rows_of r.args.n = omega arith in
+    let e : suc (l.i - 1) ≡ l.i = omega arith in (
+      omega arith,
+      rw (rest_more _ _ (l.i - 1) h, e, ← l.invariant.1, c.pushed-due.ensures, r.remainder-r.ensures, r.wide.ensures),
+      rw (rest_more _ _ (l.i - 1) h, e, ← l.invariant.2, c.pushed-end.ensures, r.remainder-r.ensures, r.wide.ensures, c.wide-last.ensures, c.less.ensures),
+    )
+
+pub returns : goal.returns
+unfolding due_word end_word
+returns c =
+    let l = c.loop-i in
+    let e : l.i ≡ 0 = omega arith in
+    rw (l.invariant.1, l.invariant.2, e, rest_all, rest_all)

@@ -1,0 +1,16 @@
+use mathlib.Core.Path.{◌≡◌}
+use mathlib.Core.List.{List}
+use Prim.Native.Nat.{ℕ, suc, ◌-◌, ◌≤◌, ◌<◌}
+use native.Mathlib.Omega.{arith}
+use borrow.Author.Rules.{rules}
+use Rattle.seq.specs.Places.{at}
+use Rattle.rows.specs.Rows.{rows_of}
+use Rattle.marks.specs.Words.{begins, ends, due_word, end_word}
+use Rattle.marks.proofs.Down.{rest, rest_none, rest_more, rest_low, rest_all}
+use Rattle.marks.proofs.mark.Given as goal
+
+abbrev pub invariant-loop-i : goal.invariant-loop-i
+invariant-loop-i l = (l.i ≤ rows_of l.n) × (l.due ≡ due_from l.m l.n l.t l.i) × (l.end ≡ end_from l.m l.n l.t l.d l.i)
+
+abbrev pub decreases-loop-i : goal.decreases-loop-i
+decreases-loop-i l = l.i

@@ -1,0 +1,13 @@
+use Prim.Native.Nat.{◌^◌}
+use native.Mathlib.Nat.{add-zero, mul-one, mul-zero}
+use borrow.Author.Rules.{rules}
+use Rattle.seq.proofs.Words.{or_bit}
+use Rattle.marks.proofs.with_bit.Goals as goal
+
+pub returns-then-on : goal.returns-then-on
+returns-then-on c =
+    let s = c in
+    rw (c.if-on.true, mul-one (2 ^ s.args.i)) (or_bit s.args.w s.args.i s.requires.1 s.requires.0)
+
+pub returns-else-on : goal.returns-else-on
+returns-else-on c = rw (c.if-on.false, mul-zero, add-zero)

@@ -1,0 +1,17 @@
+use mathlib.Core.Path.{◌≡◌, refl}
+use Prim.Native.Nat.{◌-◌, ◌≤◌}
+use native.Mathlib.Omega.{arith}
+use lib.Dec.{ltb}
+use borrow.Author.Tests.{lt-leb, le-leb}
+use borrow.Author.Rules.{rules}
+use Rattle.seq.specs.Places.{at, every}
+use Rattle.seq.proofs.Places.{every_more}
+use Rattle.queue.specs.Queue.{place_proper, proper}
+use Rattle.queue.proofs.is_proper.Given as goal
+
+abbrev pub invariant-loop-i : goal.invariant-loop-i
+invariant-loop-i l =
+    (l.i ≤ 32) × (l.j ≡ l.i) × (l.n ≡ l.count) × (l.ok ≡ every l.i (λ l.j. place_proper (ltb l.j l.count) (at l.names l.j) (at l.sizes l.j)))
+
+abbrev pub decreases-loop-i : goal.decreases-loop-i
+decreases-loop-i l = 32 - l.i

@@ -1,0 +1,8 @@
+use borrow.Author.Rules.{rules}
+use Rattle.queue.proofs.place_proper.Goals as goal
+
+pub returns-then-used : goal.returns-then-used
+returns-then-used c = rw c.if-used.true
+
+pub returns-else-used : goal.returns-else-used
+returns-else-used c = rw c.if-used.false c.both.ensures

@@ -1,0 +1,13 @@
+use mathlib.Core.Path.{◌≡◌, sym}
+use Prim.Native.Nat.{◌-◌, ◌≤◌}
+use native.Mathlib.Omega.{arith}
+use borrow.Author.Rules.{rules}
+use Rattle.rows.specs.Rows.{rows_of, idle}
+use Rattle.rows.proofs.Idle.{idle_most, idle_miss, idle_hit}
+use Rattle.rows.proofs.idle_rows.Given as goal
+
+abbrev pub invariant-loop-first : goal.invariant-loop-first
+invariant-loop-first l = (l.first ≤ l.m) × (l.m ≡ rows_of l.n) × (l.first ≤ idle l.n l.left)
+
+abbrev pub decreases-loop-first : goal.decreases-loop-first
+decreases-loop-first l = l.m - l.first

@@ -1,0 +1,7 @@
+use Rattle.table.specs.Form.{count_verdict}
+use borrow.Author.Rules.{rules}
+use Rattle.table.proofs.count_verdict.Goals as goal
+
+pub returns : goal.returns
+unfolding count_verdict
+returns c = rw (c.refusal.ensures, c.either.ensures)

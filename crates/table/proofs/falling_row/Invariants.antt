@@ -1,0 +1,14 @@
+use mathlib.Core.Path.{sym}
+use borrow.Author.Tests.{le-leb, lt-leb}
+use Rattle.seq.proofs.Places.{lead_most, lead_miss, lead_hit}
+use Rattle.table.specs.Form.{rising, falling_row}
+use Prim.Native.Nat.{◌≤◌, ◌<◌, ◌-◌, min}
+use native.Mathlib.Omega.{arith}
+use borrow.Author.Rules.{rules}
+use Rattle.table.proofs.falling_row.Given as goal
+
+abbrev pub invariant-loop-i : goal.invariant-loop-i
+invariant-loop-i l = (l.i ≤ min l.n 16) × (l.i ≤ falling_row l.n l.t)
+
+abbrev pub decreases-loop-i : goal.decreases-loop-i
+decreases-loop-i l = min l.n 16 - l.i
