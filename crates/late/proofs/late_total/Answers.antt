@@ -11,7 +11,7 @@ loop-i-init c = (omega arith, refl)
 pub loop-i-preserved : goal.loop-i-preserved
 loop-i-preserved c =
     let l = c.loop-i in
-    (omega arith, c.wrapping_add_u64-sum.ensures ∙ total_more _ l.i _ l.invariant.1)
+    (omega arith, c.wrapping_add_u64-sum.ensures.value ∙ total_more _ l.i _ l.invariant.1)
 
 pub returns : goal.returns
 returns c =

@@ -9,12 +9,6 @@ use Rattle.marks.specs.Words.{begins, ends, due_word, end_word}
 use Rattle.marks.proofs.Down.{rest, rest_none, rest_more, rest_low, rest_all}
 use Rattle.marks.proofs.mark.Goals as goal
 
-abbrev due_from : ℕ → ℕ → List ℕ → ℕ → ℕ
-due_from m n t i = rest (rows_of n) (λ j. begins m (at t j)) i
-
-abbrev end_from : ℕ → ℕ → List ℕ → List ℕ → ℕ → ℕ
-end_from m n t d i = rest (rows_of n) (λ j. ends m (at t j) (at d j)) i
-
 pub loop-i-init : goal.loop-i-init
 loop-i-init c =
     let e = c.lesser-i.ensures in

@@ -9,6 +9,12 @@ use Rattle.marks.specs.Words.{begins, ends, due_word, end_word}
 use Rattle.marks.proofs.Down.{rest, rest_none, rest_more, rest_low, rest_all}
 use Rattle.marks.proofs.mark.Given as goal
 
+abbrev due_from : ℕ → ℕ → List ℕ → ℕ → ℕ
+due_from m n t i = rest (rows_of n) (λ j. begins m (at t j)) i
+
+abbrev end_from : ℕ → ℕ → List ℕ → List ℕ → ℕ → ℕ
+end_from m n t d i = rest (rows_of n) (λ j. ends m (at t j) (at d j)) i
+
 abbrev pub invariant-loop-i : goal.invariant-loop-i
 invariant-loop-i l = (l.i ≤ rows_of l.n) × (l.due ≡ due_from l.m l.n l.t l.i) × (l.end ≡ end_from l.m l.n l.t l.d l.i)
 

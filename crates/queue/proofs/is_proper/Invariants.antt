@@ -11,7 +11,7 @@ use Rattle.queue.proofs.is_proper.Given as goal
 
 abbrev pub invariant-loop-i : goal.invariant-loop-i
 invariant-loop-i l =
-    (l.i ≤ 32) × (l.j ≡ l.i) × (l.n ≡ l.count) × (l.ok ≡ every l.i (λ l.j. place_proper (ltb l.j l.count) (at l.names l.j) (at l.sizes l.j)))
+    (l.i ≤ 32) × (l.j ≡ l.i) × (l.n ≡ l.count) × (l.ok ≡ every l.i (λ j. place_proper (ltb j l.count) (at l.names j) (at l.sizes j)))
 
 abbrev pub decreases-loop-i : goal.decreases-loop-i
 decreases-loop-i l = 32 - l.i

@@ -22,7 +22,7 @@ pub loop-i-preserved : goal.loop-i-preserved
 loop-i-preserved c =
     let l = c.loop-i in (
       omega arith,
-      over_more 0 l.i _ _ _ _ l.invariant.1 (rw (lt-ltb l.i 31 (omega arith)) (over_at 0 l.i _ _ l.a-1 (l.i + 1) l.invariant.1 (omega arith))),
+      over_more 0 l.i _ _ _ _ l.invariant.1 (rw (lt-ltb l.i 31 (omega arith)) (over_at 0 l.i _ _ l.a (l.i + 1) l.invariant.1 (omega arith))),
     )
 
 pub returns : goal.returns
