@@ -1,0 +1,15 @@
+use mathlib.Core.Path.{◌≡◌, refl}
+use Prim.Native.Nat.{◌≤◌, ◌<◌, ◌-◌, ◌*◌}
+use native.Mathlib.Omega.{arith}
+use borrow.Author.Rules.{rules}
+use Rattle.seq.specs.Places.{at}
+use Rattle.law.specs.Sums.{sum, ceil}
+use Rattle.law.specs.Work.{W}
+use Rattle.law.proofs.Sums.{sum_next}
+use Rattle.allowance.proofs.work.Given as goal
+
+abbrev pub invariant-loop-h : goal.invariant-loop-h
+invariant-loop-h l = (l.h ≤ l.i) × (l.w ≡ W (at l.c) (at l.t) l.h l.x) × (l.w ≤ 33550336 * l.h)
+
+abbrev pub decreases-loop-h : goal.decreases-loop-h
+decreases-loop-h l = l.i - l.h

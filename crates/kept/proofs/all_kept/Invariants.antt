@@ -1,0 +1,19 @@
+use mathlib.Core.Path.{◌≡◌, refl}
+use Prim.Native.Nat.{◌-◌, ◌≤◌}
+use native.Mathlib.Omega.{arith}
+use lib.Dec.{ltb}
+use Rattle.seq.specs.Places.{at, every}
+use Rattle.seq.proofs.Places.{every_more}
+use Rattle.table.specs.Form.{sound}
+use Rattle.rows.specs.Rows.{rows_of}
+use Rattle.kept.specs.Kept.{kept}
+use Rattle.kept.proofs.Kept.{below_rows}
+use Rattle.kept.proofs.Sound.{kept_alike}
+use borrow.Author.Rules.{rules}
+use Rattle.kept.proofs.all_kept.Given as goal
+
+abbrev pub invariant-loop-i : goal.invariant-loop-i
+invariant-loop-i l = (l.i ≤ 16) × (l.j ≡ l.i) × (l.m ≡ rows_of l.n) × (l.ok ≡ every l.i (kept l.n l.c l.t l.d l.k l.left l.counter))
+
+abbrev pub decreases-loop-i : goal.decreases-loop-i
+decreases-loop-i l = 16 - l.i

@@ -1,0 +1,16 @@
+use mathlib.Core.Path.{◌≡◌, refl, sym}
+use mathlib.Core.Bool.{true}
+use Prim.Native.Nat.{◌-◌, ◌≤◌, min}
+use native.Mathlib.Omega.{arith}
+use lib.Dec.{leb}
+use borrow.Author.Tests.{le-leb, lt-leb}
+use Rattle.seq.specs.Places.{at, every}
+use Rattle.seq.proofs.Places.{every_more, every_not}
+use borrow.Author.Rules.{rules}
+use Rattle.kept.proofs.lates_low.Given as goal
+
+abbrev pub invariant-loop-i : goal.invariant-loop-i
+invariant-loop-i l = (l.i ≤ l.m) × (l.m ≡ min l.n 16) × (every l.i (λ j. leb (at l.late j) l.ran) ≡ true)
+
+abbrev pub decreases-loop-i : goal.decreases-loop-i
+decreases-loop-i l = l.m - l.i

@@ -1,0 +1,17 @@
+use mathlib.Core.Path.{◌≡◌, sym}
+use mathlib.Core.Bool.{◌||◌}
+use Prim.Native.Nat.{◌-◌, ◌≤◌, min}
+use native.Mathlib.Omega.{arith}
+use lib.Dec.{eqb, ltb}
+use borrow.Author.Tests.{lt-ltb, le-ltb}
+use Rattle.seq.specs.Places.{at, every}
+use Rattle.seq.proofs.Places.{every_more, every_true}
+use Rattle.kept.proofs.Sound.{or_none}
+use borrow.Author.Rules.{rules}
+use Rattle.kept.proofs.lates_zero.Given as goal
+
+abbrev pub invariant-loop-i : goal.invariant-loop-i
+invariant-loop-i l = (min l.n 16 ≤ l.i) × (l.i ≤ 16) × (eqb l.rest 0 ≡ every l.i (λ j. ltb j l.n || eqb (at l.late j) 0))
+
+abbrev pub decreases-loop-i : goal.decreases-loop-i
+decreases-loop-i l = 16 - l.i

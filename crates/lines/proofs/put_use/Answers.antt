@@ -1,0 +1,38 @@
+use mathlib.Core.Path.{◌≡◌}
+use borrow.Author.Rules.{rules}
+use lib.ListN.{length}
+use Rattle.uses.specs.declared.Use.TheVariants.{Hard, Given, Empty, Lost}
+use Rattle.text.specs.Text.{text, decimal}
+use Rattle.lines.specs.Lines.{use_text}
+use Rattle.text.proofs.Laid.{piece_more}
+use Rattle.lines.proofs.put_use.Goals as goal
+
+pub returns-in-Hard : goal.returns-in-Hard
+unfolding use_text
+returns-in-Hard c =
+    let a = c.args in
+    let k = c.used.given in
+    let e : length a.line.bytes ≡ 128 = search rules in
+    let f : a.used ≡ Hard k.0.0 = k.1 in
+    rw f (piece_more a.line (text "H") (decimal k.0.0) e c.put.ensures c.put_number.ensures)
+
+pub returns-in-Given : goal.returns-in-Given
+unfolding use_text
+returns-in-Given c =
+    let a = c.args in
+    let k = c.used-in-Given-1.given in
+    let e : length a.line.bytes ≡ 128 = search rules in
+    let f : a.used ≡ Given k.0.0 = k.1 in
+    rw f (piece_more a.line (text "N") (decimal k.0.0) e c.put-in-Given.ensures c.put_number-in-Given.ensures)
+
+pub returns-in-Empty : goal.returns-in-Empty
+unfolding use_text
+returns-in-Empty c =
+    let f : c.args.used ≡ Empty = c.enum_told.given.1 in
+    rw f c.put-in-Empty.ensures
+
+pub returns-in-Lost : goal.returns-in-Lost
+unfolding use_text
+returns-in-Lost c =
+    let f : c.args.used ≡ Lost = c.enum_told-in-Lost-1.given.1 in
+    rw f c.put-in-Lost.ensures

@@ -1,0 +1,6 @@
+use borrow.Author.Rules.{rules}
+use native.Mathlib.Numerals.{add-one}
+use Rattle.writer.proofs.put_big.Goals as goal
+
+pub returns : goal.returns
+returns c = rw (add-one c.args.p)
