@@ -11,28 +11,20 @@ pub returns-in-Hard : goal.returns-in-Hard
 unfolding use_text
 returns-in-Hard c =
     let a = c.args in
-    let k = c.used.given in
     let e : length a.line.bytes ≡ 128 = search rules in
-    let f : a.used ≡ Hard k.0.0 = k.1 in
-    rw f (piece_more a.line (text "H") (decimal k.0.0) e c.put.ensures c.put_number.ensures)
+    rw c.in-Hard.is (piece_more a.line (text "H") (decimal c.in-Hard.row) e c.put.ensures c.put_number.ensures)
 
 pub returns-in-Given : goal.returns-in-Given
 unfolding use_text
 returns-in-Given c =
     let a = c.args in
-    let k = c.used-in-Given-1.given in
     let e : length a.line.bytes ≡ 128 = search rules in
-    let f : a.used ≡ Given k.0.0 = k.1 in
-    rw f (piece_more a.line (text "N") (decimal k.0.0) e c.put-in-Given.ensures c.put_number-in-Given.ensures)
+    rw c.in-Given.is (piece_more a.line (text "N") (decimal c.in-Given.name) e c.put-in-Given.ensures c.put_number-in-Given.ensures)
 
 pub returns-in-Empty : goal.returns-in-Empty
 unfolding use_text
-returns-in-Empty c =
-    let f : c.args.used ≡ Empty = c.enum_told.given.1 in
-    rw f c.put-in-Empty.ensures
+returns-in-Empty c = rw c.in-Empty.is c.put-in-Empty.ensures
 
 pub returns-in-Lost : goal.returns-in-Lost
 unfolding use_text
-returns-in-Lost c =
-    let f : c.args.used ≡ Lost = c.enum_told-in-Lost-1.given.1 in
-    rw f c.put-in-Lost.ensures
+returns-in-Lost c = rw c.in-Lost.is c.put-in-Lost.ensures
