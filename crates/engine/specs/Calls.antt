@@ -1,7 +1,7 @@
 -- A request, and the late total.
 use Rattle.std.specs.Prelude.{ℕ, cond, eqb, leb}
 use Rattle.late.specs.Late.{total}
-use Rattle.queue.specs.Queue.{Request, asked}
+use Rattle.queue.specs.Queue.{asked}
 use Rattle.engine.specs.declared.State.{State}
 use Rattle.engine.specs.declared.Requested.{Requested}
 use Rattle.engine.specs.declared.Summed.{Summed}

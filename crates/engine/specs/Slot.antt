@@ -10,7 +10,7 @@ use Rattle.uses.specs.declared.Use.{Use}
 use Rattle.uses.specs.declared.Use.TheVariants as use_for
 use Rattle.uses.specs.Uses.{chosen, is_give, used_for, row_served, is_hard, is_given, is_empty, is_lost}
 use Rattle.legal.specs.Legal.{last_slot}
-use Rattle.queue.specs.Queue.{Request, served}
+use Rattle.queue.specs.Queue.{served}
 use Rattle.engine.specs.declared.State.{State}
 use Rattle.engine.specs.declared.Answer.{Answer}
 use Rattle.engine.specs.declared.Slotted.{Slotted}

@@ -1,5 +1,5 @@
 -- Cases of document 01 that a run decides.
-use Rattle.std.specs.Prelude.{◌≡◌, List, [], ◌∷◌, ◌++◌, ℕ, ◌-◌, replicate}
+use Rattle.std.specs.Prelude.{◌≡◌, List, [], ◌∷◌, ◌++◌, ℕ, replicate}
 use Rattle.engine.specs.declared.State.{State}
 use Rattle.engine.specs.declared.Summed.{Summed}
 use Rattle.uses.specs.declared.Use.{Use}

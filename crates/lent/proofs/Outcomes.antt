@@ -8,8 +8,7 @@ use Rattle.record.specs.Record.{written_of, buffer_of}
 use Rattle.engine.specs.declared.State.{State}
 use Rattle.engine.specs.declared.Said.{Said}
 use Rattle.engine.specs.declared.SlotSaid.{SlotSaid}
-use Rattle.engine.specs.Said.{said_of, is_on, slot_said}
-use Rattle.engine.specs.Slot.{slot_of}
+use Rattle.engine.specs.Said.{slot_said}
 use Rattle.lent.specs.declared.Wrote.{Wrote}
 use Rattle.lent.specs.declared.Told.{Told}
 use Rattle.lent.specs.declared.Ask.{Ask}

@@ -32,7 +32,7 @@ use Rattle.promise.specs.History.{answer_at}
 use Rattle.promise.specs.Demands.{late_of_row, row_ends_late, Counted, Flagged}
 use Rattle.promise.proofs.Trail.{last_moment, trail}
 use Rattle.promise.proofs.Lane.{lane_count, lane_flag}
-use Rattle.promise.proofs.Engine.{Tame, tame, lane, word_is, figure_run}
+use Rattle.promise.proofs.Engine.{Tame, tame, lane, figure_run}
 use Rattle.promise.proofs.Legal.{tallies_legal, none_late_past, run_legal, start_legal}
 
 -- a word of flags that are not set from n on

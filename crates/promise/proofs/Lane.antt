@@ -3,12 +3,12 @@
 use mathlib.Core.Path.{◌≡◌, refl, ◌∙◌}
 use mathlib.Core.List.{List}
 use mathlib.Core.Bool.{Bool, true, false, cond, ◌&&◌}
-use Prim.Native.Nat.{ℕ, suc, ◌+◌, ◌-◌, ◌≤◌, ◌<◌}
+use Prim.Native.Nat.{ℕ, suc, ◌+◌, ◌≤◌, ◌<◌}
 use native.Mathlib.Omega.{arith}
 use lib.Dec.{eqb, ltb}
 use lib.ListN.{length}
 use Rattle.seq.specs.Places.{flag, at}
-use Rattle.seq.specs.Words.{word, bit}
+use Rattle.seq.specs.Words.{bit}
 use Rattle.seq.proofs.Places.{over_length}
 use Rattle.law.specs.Age.{released}
 use Rattle.law.specs.Judge.{RowRun, Link}

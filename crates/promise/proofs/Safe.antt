@@ -10,7 +10,7 @@ use lib.Dec.{leb}
 use lib.ListN.{length}
 use borrow.Author.Tests.{eq-eqb, lt-ltb, le-ltb, le-leb, leb-true}
 use Rattle.seq.specs.Places.{flag, at}
-use Rattle.seq.specs.Words.{word, bit}
+use Rattle.seq.specs.Words.{bit}
 use Rattle.seq.proofs.Tests.{both_true}
 use Rattle.law.specs.Age.{released}
 use Rattle.law.specs.Judge.{too_few}
@@ -33,7 +33,7 @@ use Rattle.engine.specs.States.{with_figures}
 use Rattle.uses.specs.Uses.{is_give, is_lost}
 use Rattle.engine.specs.Slot.{counter₁, left₁, choice_of, use_of, settled}
 use Rattle.promise.specs.Runs.{Call, history, moment}
-use Rattle.promise.specs.History.{answer_at, hit, got, count, NoneLost}
+use Rattle.promise.specs.History.{answer_at, hit, count, NoneLost}
 use Rattle.promise.specs.Demands.{late_of_row, row_ends_late, InTime, Spared}
 use Rattle.promise.proofs.Trail.{trail}
 use Rattle.promise.proofs.Choice.{low, high, took}

@@ -1,6 +1,4 @@
 -- No two outcomes meet the contract of a public function: the result, and what stands in a lent place.
-use mathlib.Core.List.{List}
-use Prim.Native.Nat.{ℕ}
 use Rattle.seq.specs.Outcomes.{OneOutcome}
 use Rattle.seq.proofs.Outcomes.{one_outcome}
 use Rattle.seq.proofs.both.Reads as both

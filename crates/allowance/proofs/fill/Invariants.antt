@@ -1,11 +1,6 @@
-use mathlib.Core.Path.{◌≡◌, refl, sym, ◌∙◌}
-use Prim.Native.Nat.{ℕ, ◌≤◌, ◌-◌}
-use native.Mathlib.Omega.{arith}
-use Rattle.seq.specs.Places.{at, over}
-use Rattle.seq.proofs.Places.{lead_most, lead_miss, lead_hit, over_more}
-use Rattle.allowance.proofs.Row.{row_in_form, nothing_held, most_held}
-use Rattle.allowance.specs.Test.{lacking_row, row_holds, filled}
-use borrow.Author.Rules.{rules}
+use mathlib.Core.Path.{◌≡◌}
+use Prim.Native.Nat.{◌≤◌, ◌-◌}
+use Rattle.allowance.specs.Test.{lacking_row, filled}
 use Rattle.allowance.proofs.fill.Given as goal
 
 abbrev pub invariant-loop-i : goal.invariant-loop-i

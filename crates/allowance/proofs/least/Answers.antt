@@ -1,10 +1,8 @@
 use mathlib.Core.Path.{◌≡◌, refl}
-use Prim.Native.Nat.{◌≤◌, ◌-◌}
 use native.Mathlib.Omega.{arith}
 use Rattle.seq.specs.Places.{at}
 use Rattle.allowance.specs.Test.{smallest}
 use Rattle.allowance.proofs.Smallest.{smallest_next}
-use borrow.Author.Rules.{rules}
 use Rattle.allowance.proofs.least.Goals as goal
 
 pub loop-i-init : goal.loop-i-init

@@ -1,10 +1,7 @@
-use mathlib.Core.Path.{◌≡◌, refl}
+use mathlib.Core.Path.{◌≡◌}
 use Prim.Native.Nat.{◌≤◌, ◌-◌}
-use native.Mathlib.Omega.{arith}
 use Rattle.seq.specs.Places.{at}
 use Rattle.allowance.specs.Test.{smallest}
-use Rattle.allowance.proofs.Smallest.{smallest_next}
-use borrow.Author.Rules.{rules}
 use Rattle.allowance.proofs.least.Given as goal
 
 abbrev pub invariant-loop-i : goal.invariant-loop-i

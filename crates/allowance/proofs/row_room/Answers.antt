@@ -1,7 +1,5 @@
-use Prim.Native.Nat.{◌-◌}
 use native.Mathlib.Omega.{arith}
 use Rattle.allowance.proofs.Row.{room_nothing, room_most, room_small}
-use borrow.Author.Rules.{rules}
 use Rattle.allowance.proofs.row_room.Goals as goal
 
 pub returns-then-s-eq0 : goal.returns-then-s-eq0

@@ -1,6 +1,5 @@
 use mathlib.Core.Path.{refl}
 use native.Mathlib.Omega.{arith}
-use borrow.Author.Rules.{rules}
 use Rattle.law.specs.Sums.{ceil}
 use Rattle.allowance.proofs.Row.{share_small}
 use Rattle.allowance.proofs.share.Goals as goal

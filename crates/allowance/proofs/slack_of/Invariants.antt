@@ -1,11 +1,7 @@
-use mathlib.Core.Path.{◌≡◌, refl}
-use Prim.Native.Nat.{suc, ◌≤◌, ◌-◌}
-use native.Mathlib.Omega.{arith}
+use mathlib.Core.Path.{◌≡◌}
+use Prim.Native.Nat.{◌≤◌, ◌-◌}
 use Rattle.seq.specs.Places.{at}
 use Rattle.law.specs.Slack.{slack}
-use Rattle.law.proofs.Slack.{slack_next}
-use Rattle.allowance.proofs.Row.{sized_less}
-use borrow.Author.Rules.{rules}
 use Rattle.allowance.proofs.slack_of.Given as goal
 
 abbrev pub invariant-loop-x : goal.invariant-loop-x

@@ -1,5 +1,4 @@
 use mathlib.Core.Path.{sym, ◌∙◌}
-use Prim.Native.Nat.{◌-◌}
 use Rattle.allowance.proofs.Tests.{test_refused, test_lacks, test_passes, taken_well}
 use borrow.Author.Rules.{rules}
 use Rattle.allowance.proofs.test.Goals as goal

@@ -1,10 +1,8 @@
 use mathlib.Core.Path.{◌≡◌, refl}
-use Prim.Native.Nat.{◌≤◌, ◌<◌, ◌-◌, ◌*◌}
+use Prim.Native.Nat.{◌<◌, ◌*◌}
 use native.Mathlib.Omega.{arith}
-use borrow.Author.Rules.{rules}
 use Rattle.seq.specs.Places.{at}
 use Rattle.law.specs.Sums.{sum, ceil}
-use Rattle.law.specs.Work.{W}
 use Rattle.law.proofs.Sums.{sum_next}
 use Rattle.allowance.proofs.work.Goals as goal
 

@@ -1,11 +1,7 @@
-use mathlib.Core.Path.{◌≡◌, refl}
-use Prim.Native.Nat.{◌≤◌, ◌<◌, ◌-◌, ◌*◌}
-use native.Mathlib.Omega.{arith}
-use borrow.Author.Rules.{rules}
+use mathlib.Core.Path.{◌≡◌}
+use Prim.Native.Nat.{◌≤◌, ◌-◌, ◌*◌}
 use Rattle.seq.specs.Places.{at}
-use Rattle.law.specs.Sums.{sum, ceil}
 use Rattle.law.specs.Work.{W}
-use Rattle.law.proofs.Sums.{sum_next}
 use Rattle.allowance.proofs.work.Given as goal
 
 abbrev pub invariant-loop-h : goal.invariant-loop-h

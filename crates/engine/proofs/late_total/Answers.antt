@@ -1,9 +1,6 @@
-use mathlib.Core.Path.{◌≡◌, sym, ◌∙◌}
+use mathlib.Core.Path.{sym, ◌∙◌}
 use native.Mathlib.Omega.{arith}
-use borrow.Author.Tests.{not-true, not-false}
 use Rattle.late.proofs.Counts.{total_exact}
-use Rattle.engine.specs.declared.State.{State}
-use Rattle.engine.specs.Legal.{legal}
 use Rattle.engine.specs.Calls.{late_total_of}
 use Rattle.engine.proofs.Legality.{parts_legal, legal_says, late_low}
 use Rattle.engine.proofs.late_total.Goals as goal

@@ -1,10 +1,9 @@
 use mathlib.Core.Path.{◌≡◌, sym, ◌∙◌}
-use Prim.Native.Nat.{◌-◌}
 use native.Mathlib.Omega.{arith}
 use lib.ListN.{length}
 use borrow.Author.Rules.{rules}
 use borrow.Author.Tests.{ne_eqb}
-use Rattle.engine.specs.Calls.{request_refusal, request_of}
+use Rattle.engine.specs.Calls.{request_of}
 use Rattle.engine.proofs.Legality.{parts_legal, request_tested, request_legal}
 use Rattle.engine.proofs.Ran.{joined_is}
 use Rattle.engine.proofs.request.Goals as goal

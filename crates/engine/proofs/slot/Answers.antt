@@ -1,6 +1,5 @@
 use mathlib.Core.Path.{ap, ◌∙◌}
 use mathlib.Core.Bool.{Bool}
-use borrow.Author.Rules.{rules}
 use Rattle.seq.specs.Places.{at}
 use Rattle.engine.specs.declared.SlotSaid.{SlotSaid}
 use Rattle.engine.specs.Slot.{slot_of}

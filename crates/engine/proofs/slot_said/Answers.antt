@@ -1,9 +1,8 @@
 use mathlib.Core.Path.{◌≡◌, refl, sym, ◌∙◌}
-use mathlib.Core.Bool.{Bool}
 use lib.ListN.{length}
 use borrow.Author.Rules.{rules}
 use borrow.Author.Tests.{ne_eqb}
-use Rattle.engine.specs.Slot.{slot_refusal, slot_of}
+use Rattle.engine.specs.Slot.{slot_of}
 use Rattle.engine.specs.Said.{is_on}
 use Rattle.engine.proofs.Legality.{parts_legal, slot_tested, slot_legal}
 use Rattle.engine.proofs.Ran.{ran_is}

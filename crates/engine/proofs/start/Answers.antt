@@ -1,5 +1,4 @@
 use Rattle.engine.specs.Start.{start_of}
-use borrow.Author.Rules.{rules}
 use Rattle.engine.proofs.start.Goals as goal
 
 pub returns-in_default : goal.returns-in_default

@@ -1,6 +1,5 @@
 use Prim.Native.Nat.{◌+◌}
 use native.Mathlib.Omega.{arith}
-use borrow.Author.Rules.{rules}
 use Rattle.seq.proofs.Bytes.{big_rest}
 use Rattle.events.proofs.Told.{end_there, slot_there, lost_there, unknown_there, cut_there, request_there}
 use Rattle.events.proofs.event_at.Goals as goal

@@ -1,6 +1,5 @@
 use mathlib.Core.Path.{ap, ◌∙◌}
 use Prim.Native.Nat.{ℕ}
-use borrow.Author.Rules.{rules}
 use lib.ListN.{drop}
 use Rattle.seq.proofs.Places.{rest_part}
 use Rattle.events.proofs.events.Goals as goal

@@ -1,7 +1,6 @@
 use mathlib.Core.Path.{ap, sym}
 use Prim.Native.Nat.{ℕ, ◌≤◌}
 use native.Mathlib.Omega.{arith}
-use borrow.Author.Rules.{rules}
 use lib.ListN.{length, take}
 use lib.Seq.{length-take-le}
 use Rattle.events.proofs.record.Goals as goal

@@ -1,6 +1,5 @@
 use mathlib.Core.Path.{◌≡◌, ◌∙◌}
 use native.Mathlib.Omega.{arith}
-use borrow.Author.Rules.{rules}
 use Rattle.seq.specs.Bytes.{big_at}
 use Rattle.seq.proofs.Bytes.{big_rest}
 use Rattle.events.proofs.record_length.Goals as goal

@@ -1,15 +1,8 @@
-use mathlib.Core.Path.{◌≡◌, refl}
+use mathlib.Core.Path.{◌≡◌}
 use Prim.Native.Nat.{◌-◌, ◌≤◌}
-use native.Mathlib.Omega.{arith}
-use lib.Dec.{ltb}
-use Rattle.seq.specs.Places.{at, every}
-use Rattle.seq.proofs.Places.{every_more}
-use Rattle.table.specs.Form.{sound}
+use Rattle.seq.specs.Places.{every}
 use Rattle.rows.specs.Rows.{rows_of}
 use Rattle.kept.specs.Kept.{kept}
-use Rattle.kept.proofs.Kept.{below_rows}
-use Rattle.kept.proofs.Sound.{kept_alike}
-use borrow.Author.Rules.{rules}
 use Rattle.kept.proofs.all_kept.Given as goal
 
 abbrev pub invariant-loop-i : goal.invariant-loop-i

@@ -1,5 +1,4 @@
 use Rattle.kept.proofs.Sound.{lates_test}
-use borrow.Author.Rules.{rules}
 use Rattle.kept.proofs.lates_kept.Goals as goal
 
 pub returns : goal.returns

@@ -1,12 +1,8 @@
-use mathlib.Core.Path.{◌≡◌, refl, sym}
+use mathlib.Core.Path.{◌≡◌}
 use mathlib.Core.Bool.{true}
 use Prim.Native.Nat.{◌-◌, ◌≤◌, min}
-use native.Mathlib.Omega.{arith}
 use lib.Dec.{leb}
-use borrow.Author.Tests.{le-leb, lt-leb}
 use Rattle.seq.specs.Places.{at, every}
-use Rattle.seq.proofs.Places.{every_more, every_not}
-use borrow.Author.Rules.{rules}
 use Rattle.kept.proofs.lates_low.Given as goal
 
 abbrev pub invariant-loop-i : goal.invariant-loop-i

@@ -1,13 +1,8 @@
 use mathlib.Core.Path.{◌≡◌, sym}
-use mathlib.Core.Bool.{◌||◌}
-use Prim.Native.Nat.{◌-◌, ◌≤◌, min}
 use native.Mathlib.Omega.{arith}
-use lib.Dec.{eqb, ltb}
 use borrow.Author.Tests.{lt-ltb, le-ltb}
-use Rattle.seq.specs.Places.{at, every}
 use Rattle.seq.proofs.Places.{every_more, every_true}
 use Rattle.kept.proofs.Sound.{or_none}
-use borrow.Author.Rules.{rules}
 use Rattle.kept.proofs.lates_zero.Goals as goal
 
 pub loop-i-init : goal.loop-i-init

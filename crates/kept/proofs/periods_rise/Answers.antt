@@ -1,11 +1,9 @@
 use mathlib.Core.Path.{◌≡◌, sym}
-use Prim.Native.Nat.{◌-◌, ◌≤◌, min}
+use Prim.Native.Nat.{min}
 use native.Mathlib.Omega.{arith}
 use borrow.Author.Tests.{le-leb}
-use Rattle.seq.specs.Places.{at, every}
+use Rattle.seq.specs.Places.{at}
 use Rattle.seq.proofs.Places.{every_more, every_true}
-use Rattle.table.specs.Form.{rising}
-use borrow.Author.Rules.{rules}
 use Rattle.kept.proofs.periods_rise.Goals as goal
 
 pub loop-i-init : goal.loop-i-init

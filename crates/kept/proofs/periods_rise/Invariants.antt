@@ -1,11 +1,7 @@
-use mathlib.Core.Path.{◌≡◌, sym}
+use mathlib.Core.Path.{◌≡◌}
 use Prim.Native.Nat.{◌-◌, ◌≤◌, min}
-use native.Mathlib.Omega.{arith}
-use borrow.Author.Tests.{le-leb}
-use Rattle.seq.specs.Places.{at, every}
-use Rattle.seq.proofs.Places.{every_more, every_true}
+use Rattle.seq.specs.Places.{every}
 use Rattle.table.specs.Form.{rising}
-use borrow.Author.Rules.{rules}
 use Rattle.kept.proofs.periods_rise.Given as goal
 
 abbrev pub invariant-loop-i : goal.invariant-loop-i

@@ -1,4 +1,3 @@
-use borrow.Author.Rules.{rules}
 use Rattle.kept.proofs.row_bounds.Goals as goal
 
 pub returns : goal.returns

@@ -1,5 +1,4 @@
 use Rattle.kept.proofs.Sound.{sound_alike}
-use borrow.Author.Rules.{rules}
 use Rattle.kept.proofs.row_sound.Goals as goal
 
 pub returns : goal.returns

@@ -1,5 +1,4 @@
 use Rattle.kept.proofs.Sound.{rows_test}
-use borrow.Author.Rules.{rules}
 use Rattle.kept.proofs.rows_legal.Goals as goal
 
 pub returns : goal.returns

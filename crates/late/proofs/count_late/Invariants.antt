@@ -1,9 +1,7 @@
-use Rattle.std.proofs.Common.{◌≡◌, ◌-◌, ◌<◌, ◌≤◌, refl, ◌∙◌, arith, rules}
-use Rattle.seq.specs.Places.{at, over}
+use Rattle.std.proofs.Common.{◌≡◌, ◌-◌, ◌≤◌}
+use Rattle.seq.specs.Places.{over}
 use Rattle.seq.specs.Words.{bit, top_of}
-use Rattle.seq.proofs.Places.{over_more, over_at, over_stop}
-use Rattle.seq.proofs.Words.{top_clear}
-use Rattle.late.specs.Late.{raised, up}
+use Rattle.late.specs.Late.{up}
 use Rattle.late.proofs.count_late.Given as goal
 
 abbrev pub invariant-loop-i : goal.invariant-loop-i

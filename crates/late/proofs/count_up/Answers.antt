@@ -1,4 +1,3 @@
-use Rattle.std.proofs.Common.{rules}
 use Rattle.late.proofs.count_up.Goals as goal
 
 pub returns-then-on : goal.returns-then-on

@@ -1,6 +1,6 @@
-use Rattle.std.proofs.Common.{◌≡◌, ◌-◌, ◌<◌, ◌≤◌, cond, refl, ◌∙◌, arith, rules}
-use Rattle.seq.specs.Places.{at, over}
-use Rattle.seq.specs.Words.{bit, top_of}
+use Rattle.std.proofs.Common.{◌≡◌, ◌<◌, refl, ◌∙◌, arith, rules}
+use Rattle.seq.specs.Places.{over}
+use Rattle.seq.specs.Words.{top_of}
 use Rattle.seq.proofs.Places.{over_more, over_at, over_stop}
 use Rattle.seq.proofs.Words.{top_clear}
 use Rattle.late.specs.Late.{dropped}

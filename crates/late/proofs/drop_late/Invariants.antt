@@ -1,9 +1,6 @@
-use Rattle.std.proofs.Common.{◌≡◌, ◌-◌, ◌<◌, ◌≤◌, cond, refl, ◌∙◌, arith, rules}
-use Rattle.seq.specs.Places.{at, over}
+use Rattle.std.proofs.Common.{◌≡◌, ◌-◌, ◌≤◌, cond}
+use Rattle.seq.specs.Places.{over}
 use Rattle.seq.specs.Words.{bit, top_of}
-use Rattle.seq.proofs.Places.{over_more, over_at, over_stop}
-use Rattle.seq.proofs.Words.{top_clear}
-use Rattle.late.specs.Late.{dropped}
 use Rattle.late.proofs.drop_late.Given as goal
 
 abbrev pub invariant-loop-i : goal.invariant-loop-i

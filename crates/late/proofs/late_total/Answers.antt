@@ -1,5 +1,4 @@
-use Rattle.std.proofs.Common.{◌≡◌, ◌-◌, ◌%◌, ◌^◌, ◌≤◌, refl, ◌∙◌, arith, rules}
-use Rattle.seq.specs.Places.{at}
+use Rattle.std.proofs.Common.{◌≡◌, refl, ◌∙◌, arith}
 use Rattle.late.specs.Late.{total}
 use Rattle.late.proofs.Counts.{total_more}
 use Rattle.late.proofs.late_total.Goals as goal

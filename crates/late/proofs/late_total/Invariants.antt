@@ -1,7 +1,5 @@
-use Rattle.std.proofs.Common.{◌≡◌, ◌-◌, ◌%◌, ◌^◌, ◌≤◌, refl, ◌∙◌, arith, rules}
-use Rattle.seq.specs.Places.{at}
+use Rattle.std.proofs.Common.{◌≡◌, ◌-◌, ◌%◌, ◌^◌, ◌≤◌}
 use Rattle.late.specs.Late.{total}
-use Rattle.late.proofs.Counts.{total_more}
 use Rattle.late.proofs.late_total.Given as goal
 
 abbrev pub invariant-loop-i : goal.invariant-loop-i

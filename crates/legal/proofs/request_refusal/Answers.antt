@@ -1,5 +1,5 @@
 use native.Mathlib.Omega.{arith}
-use borrow.Author.Tests.{eq-eqb, ne_eqb, lt-leb, le-leb, not-true, not-false}
+use borrow.Author.Tests.{eq-eqb, ne_eqb, lt-leb, le-leb}
 use Rattle.legal.proofs.request_refusal.Goals as goal
 
 pub returns-then-not-ok : goal.returns-then-not-ok

@@ -1,5 +1,5 @@
 use Prim.Native.Nat.{suc}
-use borrow.Author.Tests.{eq-eqb, ne_eqb, not-true, not-false}
+use borrow.Author.Tests.{eq-eqb, ne_eqb}
 use Rattle.legal.specs.Legal.{last_slot}
 use Rattle.legal.proofs.slot_refusal.Goals as goal
 

@@ -1,4 +1,3 @@
-use borrow.Author.Rules.{rules}
 use Rattle.lent.proofs.fjurke_late_total.Goals as goal
 
 pub returns : goal.returns

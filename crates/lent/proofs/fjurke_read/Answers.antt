@@ -1,7 +1,6 @@
 use mathlib.Core.Path.{ap, ◌∙◌}
 use Rattle.table.specs.Verdicts.{number_of, row_named}
 use Rattle.record.specs.declared.Reading.{Reading}
-use borrow.Author.Rules.{rules}
 use Rattle.lent.proofs.fjurke_read.Goals as goal
 
 pub returns : goal.returns

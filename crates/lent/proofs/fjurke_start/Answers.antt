@@ -1,7 +1,6 @@
 use mathlib.Core.Path.{ap, ◌∙◌}
 use Rattle.table.specs.Verdicts.{number_of, row_named}
 use Rattle.engine.specs.declared.Started.{Started}
-use borrow.Author.Rules.{rules}
 use Rattle.lent.proofs.fjurke_start.Goals as goal
 
 pub returns : goal.returns

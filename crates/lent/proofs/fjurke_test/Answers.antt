@@ -1,7 +1,6 @@
 use mathlib.Core.Path.{ap, ◌∙◌}
 use Rattle.table.specs.Verdicts.{number_of, row_named}
 use Rattle.allowance.specs.declared.Tested.{Tested}
-use borrow.Author.Rules.{rules}
 use Rattle.lent.proofs.fjurke_test.Goals as goal
 
 pub returns : goal.returns

@@ -1,7 +1,6 @@
 use mathlib.Core.Path.{ap, ◌∙◌}
 use Rattle.table.specs.Verdicts.{number_of, row_named}
 use Rattle.record.specs.declared.Written.{Written}
-use borrow.Author.Rules.{rules}
 use Rattle.lent.proofs.fjurke_write.Goals as goal
 
 pub returns : goal.returns

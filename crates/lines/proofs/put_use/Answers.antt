@@ -1,7 +1,6 @@
 use mathlib.Core.Path.{◌≡◌}
 use borrow.Author.Rules.{rules}
 use lib.ListN.{length}
-use Rattle.uses.specs.declared.Use.TheVariants.{Hard, Given, Empty, Lost}
 use Rattle.text.specs.Text.{text, decimal}
 use Rattle.lines.specs.Lines.{use_text}
 use Rattle.text.proofs.Laid.{piece_more}

@@ -1,4 +1,3 @@
-use borrow.Author.Rules.{rules}
 use Rattle.text.proofs.Laid.{line_more}
 use Rattle.lines.proofs.refused_line.Goals as goal
 

@@ -1,12 +1,9 @@
 use mathlib.Core.Path.{◌≡◌}
-use mathlib.Core.List.{List}
-use Prim.Native.Nat.{ℕ, suc, ◌-◌, ◌≤◌, ◌<◌}
+use Prim.Native.Nat.{suc, ◌-◌, ◌≤◌, ◌<◌}
 use native.Mathlib.Omega.{arith}
-use borrow.Author.Rules.{rules}
-use Rattle.seq.specs.Places.{at}
 use Rattle.rows.specs.Rows.{rows_of}
-use Rattle.marks.specs.Words.{begins, ends, due_word, end_word}
-use Rattle.marks.proofs.Down.{rest, rest_none, rest_more, rest_low, rest_all}
+use Rattle.marks.specs.Words.{due_word, end_word}
+use Rattle.marks.proofs.Down.{rest_none, rest_more, rest_low, rest_all}
 use Rattle.marks.proofs.mark.Goals as goal
 
 pub loop-i-init : goal.loop-i-init

@@ -1,14 +1,13 @@
 use mathlib.Core.Path.{◌≡◌}
 use mathlib.Core.List.{List}
-use Prim.Native.Nat.{ℕ, suc, ◌-◌, ◌≤◌, ◌<◌}
-use native.Mathlib.Omega.{arith}
-use borrow.Author.Rules.{rules}
+use Prim.Native.Nat.{ℕ, ◌≤◌}
 use Rattle.seq.specs.Places.{at}
 use Rattle.rows.specs.Rows.{rows_of}
-use Rattle.marks.specs.Words.{begins, ends, due_word, end_word}
-use Rattle.marks.proofs.Down.{rest, rest_none, rest_more, rest_low, rest_all}
+use Rattle.marks.specs.Words.{begins, ends}
+use Rattle.marks.proofs.Down.{rest}
 use Rattle.marks.proofs.mark.Given as goal
 
+-- the two words from row i on
 abbrev due_from : ℕ → ℕ → List ℕ → ℕ → ℕ
 due_from m n t i = rest (rows_of n) (λ j. begins m (at t j)) i
 

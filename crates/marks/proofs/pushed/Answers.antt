@@ -1,5 +1,4 @@
 use native.Mathlib.Omega.{arith}
-use borrow.Author.Rules.{rules}
 use Rattle.seq.proofs.Words.{shifted_up, or_low}
 use Rattle.marks.proofs.pushed.Goals as goal
 

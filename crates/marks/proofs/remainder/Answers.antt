@@ -1,5 +1,4 @@
 use native.Mathlib.Nat.{mod-zero}
-use borrow.Author.Rules.{rules}
 use Rattle.marks.proofs.remainder.Goals as goal
 
 pub returns-then-p-eq0 : goal.returns-then-p-eq0

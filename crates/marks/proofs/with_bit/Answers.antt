@@ -1,6 +1,5 @@
 use Prim.Native.Nat.{◌^◌}
 use native.Mathlib.Nat.{add-zero, mul-one, mul-zero}
-use borrow.Author.Rules.{rules}
 use Rattle.seq.proofs.Words.{or_bit}
 use Rattle.marks.proofs.with_bit.Goals as goal
 

@@ -1,5 +1,4 @@
 use native.Mathlib.Omega.{arith}
-use borrow.Author.Rules.{rules}
 use Rattle.queue.proofs.fewer.Goals as goal
 
 pub returns-then-on : goal.returns-then-on

@@ -1,12 +1,9 @@
 use mathlib.Core.Path.{◌≡◌, refl}
-use Prim.Native.Nat.{◌-◌, ◌≤◌}
 use native.Mathlib.Omega.{arith}
-use lib.Dec.{ltb}
 use borrow.Author.Tests.{lt-leb, le-leb}
-use borrow.Author.Rules.{rules}
-use Rattle.seq.specs.Places.{at, every}
+use Rattle.seq.specs.Places.{every}
 use Rattle.seq.proofs.Places.{every_more}
-use Rattle.queue.specs.Queue.{place_proper, proper}
+use Rattle.queue.specs.Queue.{proper}
 use Rattle.queue.proofs.is_proper.Goals as goal
 
 pub returns-then-count-gt32 : goal.returns-then-count-gt32

@@ -1,12 +1,8 @@
-use mathlib.Core.Path.{◌≡◌, refl}
+use mathlib.Core.Path.{◌≡◌}
 use Prim.Native.Nat.{◌-◌, ◌≤◌}
-use native.Mathlib.Omega.{arith}
 use lib.Dec.{ltb}
-use borrow.Author.Tests.{lt-leb, le-leb}
-use borrow.Author.Rules.{rules}
 use Rattle.seq.specs.Places.{at, every}
-use Rattle.seq.proofs.Places.{every_more}
-use Rattle.queue.specs.Queue.{place_proper, proper}
+use Rattle.queue.specs.Queue.{place_proper}
 use Rattle.queue.proofs.is_proper.Given as goal
 
 abbrev pub invariant-loop-i : goal.invariant-loop-i

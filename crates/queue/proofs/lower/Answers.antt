@@ -1,7 +1,6 @@
 use mathlib.Core.Path.{refl}
 use Prim.Native.Nat.{◌-◌}
 use native.Mathlib.Omega.{arith}
-use borrow.Author.Rules.{rules}
 use Rattle.seq.specs.Places.{over}
 use Rattle.seq.proofs.Places.{over_more, over_same}
 use Rattle.queue.specs.Queue.{lowered}

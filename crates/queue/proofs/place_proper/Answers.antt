@@ -1,4 +1,3 @@
-use borrow.Author.Rules.{rules}
 use Rattle.queue.proofs.place_proper.Goals as goal
 
 pub returns-then-used : goal.returns-then-used

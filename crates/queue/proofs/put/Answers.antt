@@ -1,5 +1,4 @@
 use borrow.Author.Tests.{lt-ltb, le-ltb}
-use borrow.Author.Rules.{rules}
 use Rattle.queue.specs.Queue.{placed}
 use Rattle.queue.proofs.put.Goals as goal
 

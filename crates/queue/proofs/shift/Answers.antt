@@ -1,11 +1,8 @@
 use mathlib.Core.Path.{◌≡◌, refl}
-use mathlib.Core.Bool.{cond}
-use Prim.Native.Nat.{◌+◌, ◌-◌, ◌≤◌}
+use Prim.Native.Nat.{◌+◌}
 use native.Mathlib.Omega.{arith}
-use lib.Dec.{ltb}
-use borrow.Author.Tests.{lt-ltb, not-true, not-false}
-use borrow.Author.Rules.{rules}
-use Rattle.seq.specs.Places.{at, over}
+use borrow.Author.Tests.{lt-ltb}
+use Rattle.seq.specs.Places.{over}
 use Rattle.seq.proofs.Places.{over_more, over_at, over_same}
 use Rattle.queue.specs.Queue.{shifted}
 use Rattle.queue.proofs.shift.Goals as goal

@@ -6,7 +6,6 @@ use Rattle.seq.specs.Bytes.{big_at}
 use Rattle.seq.proofs.Bytes.{big_part}
 use Rattle.record.specs.Record.{head_verdict}
 use native.Mathlib.Omega.{arith}
-use borrow.Author.Rules.{rules}
 use Rattle.record.proofs.head.Goals as goal
 
 pub returns-then-s-lt4 : goal.returns-then-s-lt4

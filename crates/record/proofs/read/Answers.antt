@@ -2,7 +2,6 @@ use mathlib.Core.Path.{sym, ◌∙◌}
 use Rattle.record.proofs.Record.{head_taken}
 use Rattle.record.specs.Record.{read_verdict, read_of}
 use native.Mathlib.Omega.{arith}
-use borrow.Author.Rules.{rules}
 use Rattle.record.proofs.read.Goals as goal
 
 pub returns-in_default : goal.returns-in_default

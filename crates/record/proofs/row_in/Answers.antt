@@ -1,6 +1,5 @@
 use Rattle.seq.proofs.Bytes.{big_part}
 use native.Mathlib.Omega.{arith}
-use borrow.Author.Rules.{rules}
 use Rattle.record.proofs.row_in.Goals as goal
 
 pub returns : goal.returns

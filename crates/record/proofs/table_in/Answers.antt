@@ -2,9 +2,8 @@ use mathlib.Core.Path.{◌≡◌, ◌∙◌}
 use Rattle.seq.specs.Places.{at, over}
 use Rattle.record.proofs.Record.{spelt_more, spelt_min}
 use Rattle.record.specs.Record.{row_place, column, rows_spelt}
-use Prim.Native.Nat.{◌≤◌, ◌-◌, ◌+◌, min}
+use Prim.Native.Nat.{◌-◌, ◌+◌, min}
 use native.Mathlib.Omega.{arith}
-use borrow.Author.Rules.{rules}
 use Rattle.record.proofs.table_in.Goals as goal
 
 pub loop-i-init : goal.loop-i-init

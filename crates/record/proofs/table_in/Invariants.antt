@@ -1,10 +1,6 @@
-use mathlib.Core.Path.{◌≡◌, ◌∙◌}
-use Rattle.seq.specs.Places.{at, over}
-use Rattle.record.proofs.Record.{spelt_more, spelt_min}
-use Rattle.record.specs.Record.{row_place, column, rows_spelt}
-use Prim.Native.Nat.{◌≤◌, ◌-◌, ◌+◌, min}
-use native.Mathlib.Omega.{arith}
-use borrow.Author.Rules.{rules}
+use mathlib.Core.Path.{◌≡◌}
+use Rattle.record.specs.Record.{rows_spelt}
+use Prim.Native.Nat.{◌≤◌, ◌-◌}
 use Rattle.record.proofs.table_in.Given as goal
 
 abbrev pub invariant-loop-i : goal.invariant-loop-i

@@ -1,5 +1,4 @@
 use borrow.Author.Tests.{eq-eqb, ne_eqb}
-use borrow.Author.Rules.{rules}
 use Rattle.report.proofs.answer_line.Goals as goal
 
 pub returns-then-a-eq0 : goal.returns-then-a-eq0

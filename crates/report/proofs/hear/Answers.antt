@@ -1,7 +1,5 @@
-use mathlib.Core.Path.{◌≡◌}
 use mathlib.Core.Bool.{false}
 use Rattle.report.specs.Listing.{event_text, event_state, heard_of}
-use borrow.Author.Rules.{rules}
 use Rattle.report.proofs.hear.Goals as goal
 
 pub returns-in-End : goal.returns-in-End

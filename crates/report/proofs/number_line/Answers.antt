@@ -1,6 +1,4 @@
 use borrow.Author.Tests.{eq-eqb, ne_eqb}
-use Rattle.table.specs.Verdicts.{taken}
-use borrow.Author.Rules.{rules}
 use Rattle.report.proofs.number_line.Goals as goal
 
 pub returns-then-number-eq0 : goal.returns-then-number-eq0

@@ -12,7 +12,6 @@ use Rattle.engine.specs.Start.{start_of}
 use Rattle.lines.specs.Lines.{refused_line}
 use Rattle.text.specs.Text.{line_of}
 use Rattle.report.specs.Listing.{opening_text, goes_ahead, opened_of}
-use borrow.Author.Rules.{rules}
 use Rattle.report.proofs.open.Goals as goal
 
 pub returns-then-s-gt65536 : goal.returns-then-s-gt65536

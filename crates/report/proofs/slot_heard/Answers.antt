@@ -3,7 +3,6 @@ use mathlib.Core.Bool.{true}
 use Rattle.engine.specs.declared.Slotted.{Slotted}
 use Rattle.text.specs.Text.{line_of}
 use Rattle.report.specs.Listing.{answer_text}
-use borrow.Author.Rules.{rules}
 use Rattle.report.proofs.slot_heard.Goals as goal
 
 pub returns : goal.returns

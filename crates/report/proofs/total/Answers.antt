@@ -3,7 +3,6 @@ use Rattle.engine.specs.declared.Summed.{Summed}
 use Rattle.lines.specs.Lines.{total_line}
 use Rattle.text.specs.Text.{line_of}
 use Rattle.report.specs.Listing.{total_text}
-use borrow.Author.Rules.{rules}
 use Rattle.report.proofs.total.Goals as goal
 
 pub returns : goal.returns

@@ -1,9 +1,6 @@
 use mathlib.Core.Path.{◌≡◌, refl}
-use Prim.Native.Nat.{◌-◌, ◌≤◌}
 use native.Mathlib.Omega.{arith}
-use borrow.Author.Tests.{not-true, not-false}
-use borrow.Author.Rules.{rules}
-use Rattle.seq.specs.Places.{at, over}
+use Rattle.seq.specs.Places.{over}
 use Rattle.seq.proofs.Places.{over_more, over_at, over_same}
 use Rattle.rows.specs.Rows.{rows_of, charged}
 use Rattle.rows.proofs.charge.Goals as goal

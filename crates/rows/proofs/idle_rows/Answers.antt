@@ -1,8 +1,5 @@
-use mathlib.Core.Path.{◌≡◌, sym}
-use Prim.Native.Nat.{◌-◌, ◌≤◌}
+use mathlib.Core.Path.{sym}
 use native.Mathlib.Omega.{arith}
-use borrow.Author.Rules.{rules}
-use Rattle.rows.specs.Rows.{rows_of, idle}
 use Rattle.rows.proofs.Idle.{idle_most, idle_miss, idle_hit}
 use Rattle.rows.proofs.idle_rows.Goals as goal
 

@@ -1,9 +1,6 @@
-use mathlib.Core.Path.{◌≡◌, sym}
+use mathlib.Core.Path.{◌≡◌}
 use Prim.Native.Nat.{◌-◌, ◌≤◌}
-use native.Mathlib.Omega.{arith}
-use borrow.Author.Rules.{rules}
 use Rattle.rows.specs.Rows.{rows_of, idle}
-use Rattle.rows.proofs.Idle.{idle_most, idle_miss, idle_hit}
 use Rattle.rows.proofs.idle_rows.Given as goal
 
 abbrev pub invariant-loop-first : goal.invariant-loop-first

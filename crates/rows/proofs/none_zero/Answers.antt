@@ -1,12 +1,9 @@
 use mathlib.Core.Path.{◌≡◌, refl, sym}
-use mathlib.Core.Bool.{true}
-use Prim.Native.Nat.{◌-◌, ◌≤◌, ◌<◌}
+use Prim.Native.Nat.{◌≤◌, ◌<◌}
 use native.Mathlib.Omega.{arith}
 use lib.ListN.{get_or}
-use lib.Dec.{ltb}
 use borrow.Author.Tests.{lt-ltb, le-ltb}
-use borrow.Author.Rules.{rules}
-use Rattle.seq.specs.Places.{at, every}
+use Rattle.seq.specs.Places.{every}
 use Rattle.seq.proofs.Places.{every_more, every_not}
 use Rattle.rows.specs.Rows.{rows_of, none_zero}
 use Rattle.rows.proofs.none_zero.Goals as goal

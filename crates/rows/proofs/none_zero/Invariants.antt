@@ -1,14 +1,9 @@
-use mathlib.Core.Path.{◌≡◌, refl, sym}
+use mathlib.Core.Path.{◌≡◌}
 use mathlib.Core.Bool.{true}
-use Prim.Native.Nat.{◌-◌, ◌≤◌, ◌<◌}
-use native.Mathlib.Omega.{arith}
-use lib.ListN.{get_or}
+use Prim.Native.Nat.{◌-◌, ◌≤◌}
 use lib.Dec.{ltb}
-use borrow.Author.Tests.{lt-ltb, le-ltb}
-use borrow.Author.Rules.{rules}
 use Rattle.seq.specs.Places.{at, every}
-use Rattle.seq.proofs.Places.{every_more, every_not}
-use Rattle.rows.specs.Rows.{rows_of, none_zero}
+use Rattle.rows.specs.Rows.{rows_of}
 use Rattle.rows.proofs.none_zero.Given as goal
 
 abbrev pub invariant-loop-i : goal.invariant-loop-i

@@ -1,10 +1,8 @@
 use mathlib.Core.Path.{◌≡◌, refl}
-use Prim.Native.Nat.{◌-◌, ◌≤◌}
 use native.Mathlib.Omega.{arith}
-use borrow.Author.Rules.{rules}
-use Rattle.seq.specs.Places.{at, over}
+use Rattle.seq.specs.Places.{over}
 use Rattle.seq.proofs.Places.{over_more}
-use Rattle.rows.specs.Rows.{rows_of, idle, reloaded}
+use Rattle.rows.specs.Rows.{idle, reloaded}
 use Rattle.rows.proofs.Idle.{idle_most, idle_miss, idle_hit}
 use Rattle.rows.proofs.reload.Goals as goal
 

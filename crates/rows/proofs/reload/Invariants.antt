@@ -1,11 +1,7 @@
-use mathlib.Core.Path.{◌≡◌, refl}
+use mathlib.Core.Path.{◌≡◌}
 use Prim.Native.Nat.{◌-◌, ◌≤◌}
-use native.Mathlib.Omega.{arith}
-use borrow.Author.Rules.{rules}
 use Rattle.seq.specs.Places.{at, over}
-use Rattle.seq.proofs.Places.{over_more}
-use Rattle.rows.specs.Rows.{rows_of, idle, reloaded}
-use Rattle.rows.proofs.Idle.{idle_most, idle_miss, idle_hit}
+use Rattle.rows.specs.Rows.{rows_of, idle}
 use Rattle.rows.proofs.reload.Given as goal
 
 abbrev pub invariant-loop-i : goal.invariant-loop-i

@@ -1,7 +1,6 @@
 use mathlib.Core.Path.{refl}
 use native.Mathlib.Omega.{arith}
 use borrow.Author.Tests.{eq-eqb, ne_eqb}
-use borrow.Author.Rules.{rules}
 use Rattle.seq.proofs.Places.{over_same, over_one}
 use Rattle.rows.specs.Rows.{worked}
 use Rattle.rows.proofs.work.Goals as goal

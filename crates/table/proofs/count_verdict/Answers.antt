@@ -1,5 +1,4 @@
 use Rattle.table.specs.Form.{count_verdict}
-use borrow.Author.Rules.{rules}
 use Rattle.table.proofs.count_verdict.Goals as goal
 
 pub returns : goal.returns

@@ -2,9 +2,8 @@ use mathlib.Core.Path.{sym}
 use borrow.Author.Tests.{le-leb, lt-leb}
 use Rattle.seq.proofs.Places.{lead_most, lead_miss, lead_hit}
 use Rattle.table.specs.Form.{rising, falling_row}
-use Prim.Native.Nat.{◌≤◌, ◌<◌, ◌-◌, min}
+use Prim.Native.Nat.{◌<◌, min}
 use native.Mathlib.Omega.{arith}
-use borrow.Author.Rules.{rules}
 use Rattle.table.proofs.falling_row.Goals as goal
 
 pub returns-then-t-i : goal.returns-then-t-i

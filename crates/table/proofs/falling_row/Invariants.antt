@@ -1,10 +1,5 @@
-use mathlib.Core.Path.{sym}
-use borrow.Author.Tests.{le-leb, lt-leb}
-use Rattle.seq.proofs.Places.{lead_most, lead_miss, lead_hit}
-use Rattle.table.specs.Form.{rising, falling_row}
-use Prim.Native.Nat.{◌≤◌, ◌<◌, ◌-◌, min}
-use native.Mathlib.Omega.{arith}
-use borrow.Author.Rules.{rules}
+use Rattle.table.specs.Form.{falling_row}
+use Prim.Native.Nat.{◌≤◌, ◌-◌, min}
 use Rattle.table.proofs.falling_row.Given as goal
 
 abbrev pub invariant-loop-i : goal.invariant-loop-i

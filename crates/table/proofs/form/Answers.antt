@@ -1,5 +1,4 @@
 use Rattle.table.specs.Form.{form_verdict}
-use borrow.Author.Rules.{rules}
 use Rattle.table.proofs.form.Goals as goal
 
 pub returns : goal.returns

@@ -1,4 +1,3 @@
-use borrow.Author.Rules.{rules}
 use Rattle.table.proofs.in_order.Goals as goal
 
 pub returns : goal.returns

@@ -1,4 +1,3 @@
-use borrow.Author.Rules.{rules}
 use Rattle.table.proofs.is_sound.Goals as goal
 
 pub returns-then-inside : goal.returns-then-inside

@@ -2,7 +2,6 @@ use native.Mathlib.Numerals.{add-one}
 use Rattle.table.specs.Form.{rows_verdict}
 use Rattle.table.proofs.WellFormed.{unsound_most}
 use native.Mathlib.Omega.{arith}
-use borrow.Author.Rules.{rules}
 use Rattle.table.proofs.rows_verdict.Goals as goal
 
 pub overflow_add-i : goal.overflow_add-i

@@ -1,10 +1,7 @@
 use mathlib.Core.Path.{sym, ◌∙◌}
-use borrow.Author.Tests.{not-true, not-false}
 use Rattle.seq.proofs.Places.{lead_most, lead_miss, lead_hit}
 use Rattle.table.specs.Form.{sound, unsound_row}
-use Prim.Native.Nat.{◌≤◌, ◌-◌}
 use native.Mathlib.Omega.{arith}
-use borrow.Author.Rules.{rules}
 use Rattle.table.proofs.unsound_row.Goals as goal
 
 pub returns-then-not-ok : goal.returns-then-not-ok

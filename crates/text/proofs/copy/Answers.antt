@@ -1,9 +1,8 @@
 use mathlib.Core.Path.{◌≡◌, ap, refl, ◌∙◌}
-use Prim.Native.Nat.{ℕ, ◌≤◌, ◌-◌, ◌+◌, min}
+use Prim.Native.Nat.{ℕ, ◌+◌}
 use native.Mathlib.Omega.{arith}
-use borrow.Author.Rules.{rules}
-use lib.Seq.{length-sets, sets}
-use lib.ListN.{length, take}
+use lib.Seq.{length-sets}
+use lib.ListN.{length}
 use Rattle.seq.proofs.Bytes.{sets_more, sets_room}
 use Rattle.text.proofs.copy.Goals as goal
 

@@ -1,10 +1,7 @@
-use mathlib.Core.Path.{◌≡◌, ap, refl, ◌∙◌}
-use Prim.Native.Nat.{ℕ, ◌≤◌, ◌-◌, ◌+◌, min}
-use native.Mathlib.Omega.{arith}
-use borrow.Author.Rules.{rules}
-use lib.Seq.{length-sets, sets}
+use mathlib.Core.Path.{◌≡◌}
+use Prim.Native.Nat.{◌≤◌, ◌-◌, min}
+use lib.Seq.{sets}
 use lib.ListN.{length, take}
-use Rattle.seq.proofs.Bytes.{sets_more, sets_room}
 use Rattle.text.proofs.copy.Given as goal
 
 abbrev pub invariant-loop-i : goal.invariant-loop-i

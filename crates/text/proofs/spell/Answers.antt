@@ -1,9 +1,9 @@
-use mathlib.Core.Path.{◌≡◌, refl, ◌∙◌}
-use mathlib.Core.List.{[], append-nil, ◌++◌}
+use mathlib.Core.Path.{refl, ◌∙◌}
+use mathlib.Core.List.{[], append-nil}
 use Prim.Native.Nat.{◌≤◌, ◌<◌, ◌-◌, ◌/◌}
 use native.Mathlib.Omega.{arith}
 use borrow.Author.Rules.{rules}
-use lib.ListN.{length-set, length, drop}
+use lib.ListN.{length-set}
 use Rattle.text.specs.Text.{decimal}
 use Rattle.text.proofs.Numbers.{decimal_twenty, decimal_least, decimal_longer, decimal_more, decimal_one, digit_before}
 use Rattle.text.proofs.spell.Goals as goal

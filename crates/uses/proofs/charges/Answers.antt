@@ -1,4 +1,3 @@
-use borrow.Author.Rules.{rules}
 use Rattle.uses.proofs.charges.Goals as goal
 
 pub returns : goal.returns

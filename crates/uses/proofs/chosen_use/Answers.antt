@@ -1,7 +1,5 @@
 use mathlib.Core.Path.{sym, ◌∙◌}
-use borrow.Author.Tests.{not-true, not-false}
 use Rattle.uses.proofs.Numbers.{chosen_audio, chosen_idle, chosen_given}
-use borrow.Author.Rules.{rules}
 use Rattle.uses.proofs.chosen_use.Goals as goal
 
 pub returns-then-is_audio : goal.returns-then-is_audio

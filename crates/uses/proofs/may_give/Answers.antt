@@ -1,4 +1,3 @@
-use borrow.Author.Tests.{not-true, not-false}
 use Rattle.uses.proofs.may_give.Goals as goal
 
 pub returns-then-not-waits : goal.returns-then-not-waits

@@ -1,9 +1,6 @@
-use mathlib.Core.Path.{sym, ◌∙◌}
 use native.Mathlib.Omega.{arith}
 use Rattle.seq.proofs.Words.{flag_le}
-use Rattle.uses.specs.Uses.{is_hard, is_given, is_lost}
 use Rattle.uses.proofs.Numbers.{number_sum}
-use borrow.Author.Rules.{rules}
 use Rattle.uses.proofs.use_number.Goals as goal
 
 pub overflow_mul-result : goal.overflow_mul-result

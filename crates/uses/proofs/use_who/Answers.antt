@@ -1,6 +1,5 @@
 use mathlib.Core.Path.{sym, ◌∙◌}
 use Rattle.uses.proofs.Numbers.{who_given, who_not_given}
-use borrow.Author.Rules.{rules}
 use Rattle.uses.proofs.use_who.Goals as goal
 
 pub returns-then-is_given : goal.returns-then-is_given

@@ -1,4 +1,3 @@
-use borrow.Author.Rules.{rules}
 use Rattle.uses.proofs.used_for.Goals as goal
 
 pub returns-else-lost : goal.returns-else-lost

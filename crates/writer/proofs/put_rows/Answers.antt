@@ -1,9 +1,8 @@
 use mathlib.Core.Path.{◌≡◌, ap, ◌∙◌}
-use lib.ListN.{length}
 use lib.Seq.{sets, length-sets}
 use Rattle.record.proofs.Record.{rows_more}
 use Rattle.record.specs.Record.{rows_bytes}
-use Prim.Native.Nat.{ℕ, ◌≤◌, ◌-◌, ◌+◌}
+use Prim.Native.Nat.{ℕ, ◌+◌}
 use native.Mathlib.Omega.{arith}
 use borrow.Author.Rules.{rules}
 use Rattle.writer.proofs.put_rows.Goals as goal

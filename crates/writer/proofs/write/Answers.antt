@@ -6,7 +6,6 @@ use Rattle.record.proofs.Record.{record_put}
 use Rattle.table.proofs.WellFormed.{taken_few}
 use Rattle.record.specs.Record.{row_place, head_bytes, write_verdict, written_of, buffer_of}
 use native.Mathlib.Omega.{arith}
-use borrow.Author.Rules.{rules}
 use Rattle.writer.proofs.write.Goals as goal
 
 pub returns-in_default : goal.returns-in_default
