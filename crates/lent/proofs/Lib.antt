@@ -1,2 +1,3 @@
 pub mod Thin
+pub mod ThinCall
 pub mod Outcomes
