@@ -1,4 +1,4 @@
-/* The scheduler's calls for C, x86-64 Linux convention. `rt staticlib lent` writes the library, target/staticlib/liblent.a; it asks the rest of the
+/* The scheduler's calls for C, x86-64 Linux convention. `rt lib`, in crates/lent, writes the library, out/liblent.a; it asks the rest of the
  * program for memcpy and memset only, and uses the SSE2 registers, which an interrupt handler has to save. No call allocates, waits, keeps a
  * pointer after it has returned, or has a state of its own: calls on different states may run at the same time.
  *
