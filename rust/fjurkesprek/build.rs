@@ -18,7 +18,10 @@ fn main() {
 }
 
 fn build(lent: &Path) {
-    let told = Command::new("rt").arg("lib").current_dir(lent).output();
+    let told = Command::new("rt")
+        .args(["lib", "--cpu", "x86-64"])
+        .current_dir(lent)
+        .output();
     match told {
         Ok(output) if output.status.success() => {}
         Ok(output) => panic!(
