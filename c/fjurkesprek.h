@@ -1,6 +1,6 @@
-/* The scheduler's calls for C, x86-64 Linux convention. `rt staticlib lent` writes the library, target/staticlib/liblent.a; it asks the rest of the
- * program for memcpy and memset only, and uses the SSE2 registers, which an interrupt handler has to save. No call allocates, waits, keeps a
- * pointer after it has returned, or has a state of its own: calls on different states may run at the same time.
+/* The scheduler's calls for C, x86-64 Linux convention. `rt lib --cpu x86-64`, in crates/lent, writes the library, out/liblent.a; it asks the
+ * rest of the program for memcpy and memset only, and uses the SSE2 registers, which an interrupt handler has to save. No call allocates,
+ * waits, keeps a pointer after it has returned, or has a state of its own: calls on different states may run at the same time.
  *
  * Rows count from 1 wherever an answer names one. An answer's number is 0 (FJURKE_TAKEN) for a call that was taken; for a refused one it is the
  * number below, its other figures are 0, and no byte of what was lent has changed. */

@@ -7,25 +7,25 @@ use std::process::Command;
 fn main() {
     let here = env::var("CARGO_MANIFEST_DIR").expect("cargo says where the crate is");
     let root = Path::new(&here).join("../..");
-    let folder = root.join("target/staticlib");
+    let folder = root.join("crates/lent/out");
     let library = folder.join("liblent.a");
     if !library.exists() {
-        build(&root);
+        build(&root.join("crates/lent"));
     }
     println!("cargo:rustc-link-search=native={}", folder.display());
     println!("cargo:rustc-link-lib=static=lent");
     println!("cargo:rerun-if-changed={}", library.display());
 }
 
-fn build(root: &Path) {
+fn build(lent: &Path) {
     let told = Command::new("rt")
-        .args(["staticlib", "lent"])
-        .current_dir(root)
+        .args(["lib", "--cpu", "x86-64"])
+        .current_dir(lent)
         .output();
     match told {
         Ok(output) if output.status.success() => {}
         Ok(output) => panic!(
-            "rt staticlib lent failed:\n{}{}",
+            "rt lib failed in crates/lent:\n{}{}",
             String::from_utf8_lossy(&output.stdout),
             String::from_utf8_lossy(&output.stderr)
         ),

@@ -2,14 +2,17 @@
 // A verdict is its number and the row that it names.
 
 #![tactic(auto)]
+
 mod records;
 mod say;
 mod tables;
 mod tests;
 
-fn main() {
-    tables::all();
-    records::reads();
-    records::writes();
-    tests::all();
+use std::io::Result;
+
+fn main(rt: HostRuntime) -> Result<()> {
+    tables::all(&rt)?;
+    records::reads(&rt)?;
+    records::writes(&rt)?;
+    tests::all(&rt)
 }

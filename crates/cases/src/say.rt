@@ -1,67 +1,71 @@
 // What the cases print.
 
 use seq::both;
+use std::io::Result;
 use table::{Table, Verdict, number_of, row_named};
 
-pub fn text(s: &[u8]) {
-    io::write_all(1, s);
+pub fn text(rt: &impl Print, s: &[u8]) -> Result<()> {
+    rt.write_all(s)
 }
 
-pub fn number(x: u64) {
-    io::print_decimal(1, x);
+pub fn number(rt: &impl Print, x: u64) -> Result<()> {
+    rt.print(x)
 }
 
 fn wide(x: u8) -> u64 {
     x as u64
 }
 
-fn spaced(x: u64) {
-    text(b" ");
-    number(x);
+fn spaced(rt: &impl Print, x: u64) -> Result<()> {
+    text(rt, b" ")?;
+    number(rt, x)
 }
 
 // A space and each byte in decimal.
-pub fn bytes(s: &[u8]) {
+pub fn bytes(rt: &impl Print, s: &[u8]) -> Result<()> {
     for i in 0..s.len() {
-        spaced(wide(s[i]));
+        spaced(rt, wide(s[i]))?;
     }
+    Ok(())
 }
 
-fn place(x: u16) {
-    spaced(x as u64);
+fn place(rt: &impl Print, x: u16) -> Result<()> {
+    spaced(rt, x as u64)
 }
 
-pub fn places(a: [u16; 16]) {
+pub fn places(rt: &impl Print, a: [u16; 16]) -> Result<()> {
     for i in 0..16 {
-        place(a[i]);
+        place(rt, a[i])?;
     }
+    Ok(())
 }
 
-pub fn verdict(v: Verdict) {
-    text(b" ->");
-    spaced(wide(number_of(v)));
-    spaced(row_named(v) as u64);
+pub fn verdict(rt: &impl Print, v: Verdict) -> Result<()> {
+    text(rt, b" ->")?;
+    spaced(rt, wide(number_of(v)))?;
+    spaced(rt, row_named(v) as u64)
 }
 
-fn row(i: usize, c: u16, t: u16, d: u16) {
+fn row(rt: &impl Print, i: usize, c: u16, t: u16, d: u16) -> Result<()> {
     let zero = both(both(c == 0, t == 0), d == 0);
     if zero {
-        return;
+        return Ok(());
     }
-    spaced(i as u64);
-    text(b":");
-    number(c as u64);
-    text(b",");
-    number(t as u64);
-    text(b",");
-    number(d as u64);
+    spaced(rt, i as u64)?;
+    text(rt, b":")?;
+    number(rt, c as u64)?;
+    text(rt, b",")?;
+    number(rt, t as u64)?;
+    text(rt, b",")?;
+    number(rt, d as u64)
 }
 
 // n, and each row that is not zero with its number.
-pub fn figures(x: Table) {
-    spaced(x.n as u64);
-    text(b" rows");
+pub fn figures(rt: &impl Print, x: Table) -> Result<()> {
+    spaced(rt, x.n as u64)?;
+    text(rt, b" rows")?;
     for i in 0..16 {
-        row(i + 1, x.c[i], x.t[i], x.d[i]);
+        row(rt, i + 1, x.c[i], x.t[i], x.d[i])?;
     }
+    Ok(())
 }

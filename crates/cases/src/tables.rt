@@ -1,6 +1,7 @@
 // Tables and their form.
 
 use crate::say;
+use std::io::Result;
 use table::{Table, form};
 
 pub fn none(n: usize) -> Table {
@@ -45,48 +46,54 @@ pub fn full() -> Table {
     }
 }
 
-fn case(x: Table) {
-    say::text(b"form");
-    say::figures(x);
-    say::verdict(form(x.n, &x.c, &x.t, &x.d));
-    say::text(b"\n");
+fn case(rt: &impl Print, x: Table) -> Result<()> {
+    say::text(rt, b"form")?;
+    say::figures(rt, x)?;
+    say::verdict(rt, form(x.n, &x.c, &x.t, &x.d))?;
+    say::text(rt, b"\n")
 }
 
-fn taken() {
-    case(first());
-    case(with(with(none(2), 0, 2, 4, 4), 1, 2, 5, 5));
-    case(with(with(none(2), 0, 1, 2, 2), 1, 1, 2, 2));
-    case(one(1, 4096, 4096));
-    case(one(4096, 4096, 4096));
-    case(full());
+fn taken(rt: &impl Print) -> Result<()> {
+    case(rt, first())?;
+    case(rt, with(with(none(2), 0, 2, 4, 4), 1, 2, 5, 5))?;
+    case(rt, with(with(none(2), 0, 1, 2, 2), 1, 1, 2, 2))?;
+    case(rt, one(1, 4096, 4096))?;
+    case(rt, one(4096, 4096, 4096))?;
+    case(rt, full())
 }
 
-fn count() {
-    case(none(0));
-    case(none(17));
-    case(with(none(0), 0, 1, 3, 3));
+fn count(rt: &impl Print) -> Result<()> {
+    case(rt, none(0))?;
+    case(rt, none(17))?;
+    case(rt, with(none(0), 0, 1, 3, 3))
 }
 
 // Each way to break 1 ≤ C ≤ D ≤ T ≤ 4,096, and rows past n.
-fn rows() {
-    case(one(1, 4097, 4096));
-    case(one(0, 3, 3));
-    case(with(one(1, 3, 3), 1, 1, 3, 3));
-    case(with(one(1, 3, 3), 15, 0, 0, 1));
-    case(with(with(none(2), 0, 1, 3, 3), 1, 3, 4, 2));
-    case(with(with(none(2), 0, 1, 3, 3), 1, 1, 4, 5));
+fn rows(rt: &impl Print) -> Result<()> {
+    case(rt, one(1, 4097, 4096))?;
+    case(rt, one(0, 3, 3))?;
+    case(rt, with(one(1, 3, 3), 1, 1, 3, 3))?;
+    case(rt, with(one(1, 3, 3), 15, 0, 0, 1))?;
+    case(rt, with(with(none(2), 0, 1, 3, 3), 1, 3, 4, 2))?;
+    case(rt, with(with(none(2), 0, 1, 3, 3), 1, 1, 4, 5))
 }
 
 // All rows are tried for 5 before any for 6.
-fn periods() {
-    case(falling());
-    case(with(with(with(none(3), 0, 1, 3, 3), 1, 1, 6, 6), 2, 1, 5, 5));
-    case(with(with(with(none(3), 0, 1, 5, 5), 1, 1, 4, 4), 2, 5, 4, 4));
+fn periods(rt: &impl Print) -> Result<()> {
+    case(rt, falling())?;
+    case(
+        rt,
+        with(with(with(none(3), 0, 1, 3, 3), 1, 1, 6, 6), 2, 1, 5, 5),
+    )?;
+    case(
+        rt,
+        with(with(with(none(3), 0, 1, 5, 5), 1, 1, 4, 4), 2, 5, 4, 4),
+    )
 }
 
-pub fn all() {
-    taken();
-    count();
-    rows();
-    periods();
+pub fn all(rt: &impl Print) -> Result<()> {
+    taken(rt)?;
+    count(rt)?;
+    rows(rt)?;
+    periods(rt)
 }

@@ -2,38 +2,63 @@
 
 #![tactic(auto)]
 
-ghost use Rattle.std.specs.Prelude.{◌+◌, ◌≤◌, length};
+ghost use Rattle.std.specs.Prelude.{◌+◌, ◌≤◌, IfOk, length};
 
 use engine::State;
+use std::io;
+use std::io::Read;
 use text::Line;
 
 // One byte more than is allowed, so that a longer input shows.
-fn main() {
+fn main(rt: HostRuntime) -> io::Result<()> {
     let mut input = [0u8; 65537];
-    let n = io::read_full(0, &mut input);
-    list(&input[..n]);
+    let n = read_full(&mut rt.stdin(), &mut input)?;
+    list(&rt, &input[..n])
+}
+
+// Reads until the buffer is full or the input ends. Gives how many bytes were put at its start.
+fn read_full(from: &mut impl Read, buf: &mut [u8]) -> io::Result<usize>
+    ensures { IfOk result (λ n. n ≤ length buf.new) }
+{
+    let mut done = 0;
+    while done < buf.len() {
+        let n = from.read(&mut buf[done..])?;
+        if n == 0 {
+            break;
+        }
+        done += n;
+    }
+    Ok(done)
 }
 
 // The record says how the run opens; the events are handed on as the part behind it.
-fn list(s: &[u8]) {
+fn list(rt: &impl Print, s: &[u8]) -> io::Result<()> {
     let o = report::open(s);
-    let mut out = io::large_buffer();
+    let mut out = [0u8; 65536];
     let used = text::append(&mut out, 0, o.line);
     if o.going {
         run(
+            rt,
             events::events(s),
             events::record_length(s),
             o.state,
             &mut out,
             used,
-        );
+        )
     } else {
-        send(&out, used);
+        send(rt, &out, used)
     }
 }
 
 // `head` bytes of the input stand before the events.
-fn run(s: &[u8], head: usize, start: State, out: &mut [u8], filled: usize)
+fn run(
+    rt: &impl Print,
+    s: &[u8],
+    head: usize,
+    start: State,
+    out: &mut [u8],
+    filled: usize,
+) -> io::Result<()>
     requires { head + length s.now ≤ 65536 }
 {
     let mut state = start;
@@ -43,26 +68,27 @@ fn run(s: &[u8], head: usize, start: State, out: &mut [u8], filled: usize)
     while going {
         let e = events::event_at(s, p);
         let h = report::hear(state, e, head + p);
-        used = put(&mut *out, used, h.line);
+        used = put(rt, &mut *out, used, h.line)?;
         state = h.state;
         going = h.going;
         p = p + events::width(e);
     }
-    used = put(&mut *out, used, report::total(state));
-    send(&*out, used);
+    used = put(rt, &mut *out, used, report::total(state))?;
+    send(rt, &*out, used)
 }
 
 // Room for a whole line is made by sending what is there.
-fn put(out: &mut [u8], used: usize, line: Line) -> usize {
+fn put(rt: &impl Print, out: &mut [u8], used: usize, line: Line) -> io::Result<usize> {
     if used < 65408 {
-        return text::append(out, used, line);
+        return Ok(text::append(out, used, line));
     }
-    send(out, used);
-    text::append(out, 0, line)
+    send(rt, out, used)?;
+    Ok(text::append(out, 0, line))
 }
 
-fn send(out: &[u8], used: usize) {
+fn send(rt: &impl Print, out: &[u8], used: usize) -> io::Result<()> {
     if used <= out.len() {
-        io::write_all(1, &out[..used]);
+        rt.write_all(&out[..used])?;
     }
+    Ok(())
 }

@@ -20,9 +20,9 @@ pub fn second() {
 }
 
 pub fn time() {
-    let program = Path::new(env!("CARGO_MANIFEST_DIR")).join("../../target/bin/listing");
+    let program = Path::new(env!("CARGO_MANIFEST_DIR")).join("../../crates/listing/out/listing");
     if !program.exists() {
-        eprintln!("no listing program: `rt check listing` builds it");
+        eprintln!("no listing program: `rt run` in crates/listing builds it");
         return;
     }
     let own = std::env::current_exe().expect("this program's path");

@@ -9,7 +9,7 @@ use std::thread;
 
 /// Where the toolchain puts the proved program.
 pub fn listing_program() -> PathBuf {
-    Path::new(env!("CARGO_MANIFEST_DIR")).join("../../target/bin/listing")
+    Path::new(env!("CARGO_MANIFEST_DIR")).join("../../crates/listing/out/listing")
 }
 
 /// A command that runs a program made for x86-64; on another processor by the
