@@ -44,7 +44,8 @@ pub fn open(s: &[u8]) -> Opened
     let x = r.table;
     let b = engine::start(x);
     let state = b.state;
-    if 65536 < s.len() {
+    let long = 65536 < s.len();
+    if long {
         return Opened {
             going: false,
             line: lines::long_line(),

@@ -80,6 +80,11 @@ shifted_up w h = shl_exact {a = w} 15 1 16 h (omega arith)
 pub or_low : (w : ℕ) → w < 2 ^ 15 → bit_or (w * 2 ^ 1 % 2 ^ 16) 1 ≡ 1 + 2 * w
 or_low w h = rw (shifted_up w h, or_shifted w 1 1 (omega arith)) (omega arith)
 
+-- a word of 16 bits has none further on
+pub bit_past : (w i : ℕ) → w < 65536 → 16 ≤ i → bit w i ≡ false
+unfolding bit
+bit_past w i small h = rw (div-eq_of_lt (lt_of_lt_of_le (let s : w < 2 ^ 16 = omega arith in s) (pow_mono {i = 16} {j = i} h)))
+
 pub bit_zero : (i : ℕ) → bit 0 i ≡ false
 unfolding word
 bit_zero i = word_bit [] i

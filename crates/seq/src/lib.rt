@@ -60,6 +60,7 @@ pub fn pick(on: bool, x: u16, y: u16) -> u16
 }
 
 // Bit i of a word, which has none from 16 on.
+#[tactic(auto, using(crate::proofs::Words::bit_past), unfolding(crate::specs::Words::bit))]
 pub fn has(w: u16, i: usize) -> bool
     ensures { result ≡ bit w i }
 {

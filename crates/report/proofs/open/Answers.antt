@@ -14,9 +14,9 @@ use Rattle.text.specs.Text.{line_of}
 use Rattle.report.specs.Listing.{opening_text, goes_ahead, opened_of}
 use Rattle.report.proofs.open.Goals as goal
 
-pub returns-then-s-gt65536 : goal.returns-then-s-gt65536
+pub returns-then-long : goal.returns-then-long
 unfolding opened_of opening_text goes_ahead
-returns-then-s-gt65536 c =
+returns-then-long c =
     let s = c.args.s.now in
     let er = c.read-r.ensures ∙ ap read_of c.«record».ensures in
     let eb = c.start-b.ensures ∙ ap (λ (q : Reading). start_of q.table) er in
