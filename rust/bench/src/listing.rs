@@ -22,7 +22,7 @@ pub fn second() {
 pub fn time() {
     let program = Path::new(env!("CARGO_MANIFEST_DIR")).join("../../crates/listing/out/listing");
     if !program.exists() {
-        eprintln!("no listing program: `rt run` in crates/listing builds it");
+        eprintln!("no listing program: `rt run --cpu x86-64` in crates/listing builds it");
         return;
     }
     let own = std::env::current_exe().expect("this program's path");

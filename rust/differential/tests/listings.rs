@@ -11,7 +11,7 @@ fn random_inputs_are_listed_the_same() {
     if !program.exists() {
         let place = program.display();
         tell(&format!(
-            "SKIPPED: no listing program at {place}; `rt run` in crates/listing builds it"
+            "SKIPPED: no listing program at {place}; `rt run --cpu x86-64` in crates/listing builds it"
         ));
         return;
     }
