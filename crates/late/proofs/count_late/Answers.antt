@@ -1,9 +1,7 @@
-use Rattle.std.proofs.Common.{◌≡◌, ◌<◌, refl, ◌∙◌, arith, rules}
+use Rattle.std.proofs.Common.{refl, arith, rules}
 use Rattle.seq.specs.Places.{over}
-use Rattle.seq.specs.Words.{top_of}
-use Rattle.seq.proofs.Places.{over_more, over_at, over_stop}
-use Rattle.seq.proofs.Words.{top_clear}
-use Rattle.late.specs.Late.{raised}
+use Rattle.seq.proofs.SetBits.{walked_more, walked_all}
+use Rattle.late.specs.Late.{raised, up}
 use Rattle.late.proofs.count_late.Goals as goal
 
 pub loop-i-init : goal.loop-i-init
@@ -13,13 +11,12 @@ loop-i-init c = (omega arith, c.top-m.ensures, refl)
 pub loop-i-preserved : goal.loop-i-preserved
 loop-i-preserved c =
     let l = c.loop-i in
-    (omega arith, l.invariant.1, over_more 0 l.i _ _ _ _ l.invariant.2 (rw (c.count_up.ensures, c.has.ensures, over_at 0 l.i _ _ l.late l.i l.invariant.2 (omega arith))))
+    let a = c.args in
+    (omega arith, l.invariant.1, walked_more a.w (λ on j x. up on x) a.late.now l.i _ l.late l.invariant.2 (rw (c.count_up.ensures, c.has.ensures)))
 
 pub returns : goal.returns
 unfolding raised
 returns c =
     let l = c.loop-i in
-    let y = c in
-    let e : l.i ≡ top_of y.args.w = omega (arith, l.invariant.1) in
-    let small : y.args.w < 65536 = search rules in
-    (rw e at l.invariant.2) ∙ over_stop 0 (top_of y.args.w) 16 _ _ (omega arith) (λ j x g. rw (top_clear y.args.w small j g))
+    let a = c.args in
+    walked_all a.w (λ on j x. up on x) a.late.now (search rules) (λ j x. refl) l.i l.late (omega (arith, l.invariant.1)) l.invariant.2

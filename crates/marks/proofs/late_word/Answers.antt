@@ -28,8 +28,7 @@ pub returns : goal.returns
 unfolding late_word
 returns c =
     let l = c.loop-i in
-    let y = c in
-    let e : l.i ≡ top_of y.args.end = omega (arith, l.invariant.1) in
-    let small : y.args.end < 65536 = search rules in
-    let f : top_of y.args.end + (16 - top_of y.args.end) ≡ 16 = omega arith in
-    (rw e at l.invariant.2) ∙ sym (rw f at (word_stop (top_of y.args.end) (16 - top_of y.args.end) (λ j. bit y.args.end j && ltb 0 (at y.args.left.now j)) (λ j g. rw (top_clear y.args.end small j g))))
+    let e : l.i ≡ top_of c.args.end = omega (arith, l.invariant.1) in
+    let small : c.args.end < 65536 = search rules in
+    let f : top_of c.args.end + (16 - top_of c.args.end) ≡ 16 = omega arith in
+    (rw e at l.invariant.2) ∙ sym (rw f at (word_stop (top_of c.args.end) (16 - top_of c.args.end) (λ j. bit c.args.end j && ltb 0 (at c.args.left.now j)) (λ j g. rw (top_clear c.args.end small j g))))

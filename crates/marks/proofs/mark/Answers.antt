@@ -24,13 +24,12 @@ pushed-end-requires c =
 
 pub loop-i-preserved : goal.loop-i-preserved
 loop-i-preserved c =
-    let r = c in
-    let l = r.loop-i in
-    let h : l.i - 1 < rows_of r.args.n = omega arith in
+    let l = c.loop-i in
+    let h : l.i - 1 < rows_of c.args.n = omega arith in
     let e : suc (l.i - 1) ≡ l.i = omega arith in (
       omega arith,
-      rw (rest_more _ _ (l.i - 1) h, e, ← l.invariant.1, c.pushed-due.ensures, r.remainder-r.ensures, r.wide.ensures),
-      rw (rest_more _ _ (l.i - 1) h, e, ← l.invariant.2, c.pushed-end.ensures, r.remainder-r.ensures, r.wide.ensures, c.wide-last.ensures, c.less.ensures),
+      rw (rest_more _ _ (l.i - 1) h, e, ← l.invariant.1, c.pushed-due.ensures, c.remainder-r.ensures, c.wide.ensures),
+      rw (rest_more _ _ (l.i - 1) h, e, ← l.invariant.2, c.pushed-end.ensures, c.remainder-r.ensures, c.wide.ensures, c.wide-last.ensures, c.less.ensures),
     )
 
 pub returns : goal.returns

@@ -5,8 +5,7 @@ use Rattle.marks.proofs.with_bit.Goals as goal
 
 pub returns-then-on : goal.returns-then-on
 returns-then-on c =
-    let s = c in
-    rw (c.if-on.true, mul-one (2 ^ s.args.i)) (or_bit s.args.w s.args.i s.requires.1 s.requires.0)
+    rw (c.if-on.true, mul-one (2 ^ c.args.i)) (or_bit c.args.w c.args.i c.requires.1 c.requires.0)
 
 pub returns-else-on : goal.returns-else-on
 returns-else-on c = rw (c.if-on.false, mul-zero, add-zero)

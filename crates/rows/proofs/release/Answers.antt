@@ -1,11 +1,6 @@
-use mathlib.Core.Path.{◌≡◌, refl, ◌∙◌}
-use Prim.Native.Nat.{◌<◌}
-use native.Mathlib.Omega.{arith}
-use borrow.Author.Rules.{rules}
-use Rattle.seq.specs.Places.{over}
-use Rattle.seq.specs.Words.{top_of}
-use Rattle.seq.proofs.Places.{over_more, over_at, over_stop}
-use Rattle.seq.proofs.Words.{top_clear}
+use Rattle.std.proofs.Common.{cond, refl, arith, rules}
+use Rattle.seq.specs.Places.{at, over}
+use Rattle.seq.proofs.SetBits.{walked_more, walked_all}
 use Rattle.rows.specs.Rows.{released}
 use Rattle.rows.proofs.release.Goals as goal
 
@@ -16,13 +11,12 @@ loop-i-init c = (omega arith, c.top-m.ensures, refl)
 pub loop-i-preserved : goal.loop-i-preserved
 loop-i-preserved c =
     let l = c.loop-i in
-    (omega arith, l.invariant.1, over_more 0 l.i _ _ _ _ l.invariant.2 (rw (c.pick.ensures, c.has.ensures, over_at 0 l.i _ _ l.left l.i l.invariant.2 (omega arith))))
+    let a = c.args in
+    (omega arith, l.invariant.1, walked_more a.due (λ on j x. cond on (at a.c.now j) x) a.left.now l.i _ l.left l.invariant.2 (rw (c.pick.ensures, c.has.ensures)))
 
 pub returns : goal.returns
 unfolding released
 returns c =
     let l = c.loop-i in
-    let y = c in
-    let e : l.i ≡ top_of y.args.due = omega (arith, l.invariant.1) in
-    let small : y.args.due < 65536 = search rules in
-    (rw e at l.invariant.2) ∙ over_stop 0 (top_of y.args.due) 16 _ _ (omega arith) (λ j x g. rw (top_clear y.args.due small j g))
+    let a = c.args in
+    walked_all a.due (λ on j x. cond on (at a.c.now j) x) a.left.now (search rules) (λ j x. refl) l.i l.left (omega (arith, l.invariant.1)) l.invariant.2

@@ -14,12 +14,8 @@ overflow_mul-result-2 c = record { fits = omega (arith, c.one-3.ensures, flag_le
 
 pub overflow_add-result-2 : goal.overflow_add-result-2
 overflow_add-result-2 c =
-    let x = c in
-    let y = x in
-    record { fits = omega (arith, y.one.ensures, flag_le y.is_hard.result, x.one-2.ensures, flag_le x.is_given.result, c.one-3.ensures, flag_le c.is_lost.result) }
+    record { fits = omega (arith, c.one.ensures, flag_le c.is_hard.result, c.one-2.ensures, flag_le c.is_given.result, c.one-3.ensures, flag_le c.is_lost.result) }
 
 pub returns : goal.returns
 returns c =
-    let x = c in
-    let y = x in
-    rw (y.one.ensures, y.is_hard.ensures, x.one-2.ensures, x.is_given.ensures, c.one-3.ensures, c.is_lost.ensures) (number_sum y.args.u)
+    rw (c.one.ensures, c.is_hard.ensures, c.one-2.ensures, c.is_given.ensures, c.one-3.ensures, c.is_lost.ensures) (number_sum c.args.u)
