@@ -11,46 +11,46 @@ ghost use Rattle.seq.specs.Bytes.{big_at};
 pub fn both(a: bool, b: bool) -> bool
     ensures { result ≡ (a && b) }
 {
-    if a { b } else { false }
+    a & b
 }
 
 pub fn either(a: bool, b: bool) -> bool
     ensures { result ≡ (a || b) }
 {
-    if a { true } else { b }
+    a | b
 }
 
 fn wide(x: u8) -> u16
     ensures { (result ≡ x) × (result < 256) }
 {
-    x as u16
+    u16::from(x)
 }
 
 // The byte at a place, 0 past the end.
 pub fn byte(s: &[u8], p: usize) -> u16
     ensures { (result ≡ at s.now p) × (result < 256) }
 {
-    if p < s.len() { wide(s[p]) } else { 0 }
+    u16::from(s.get(p).copied().unwrap_or(0))
 }
 
 // The number of a part's first two bytes, the high one first.
 pub fn big(s: &[u8]) -> u16
     ensures { result ≡ big_at s.now 0 }
 {
-    byte(s, 0) * 256 + byte(s, 1)
+    u16::from_be_bytes([s.get(0).copied().unwrap_or(0), s.get(1).copied().unwrap_or(0)])
 }
 
 // One less, and 0 stays.
 pub fn less(x: u16) -> u16
     ensures { result ≡ x - 1 }
 {
-    if x == 0 { 0 } else { x - 1 }
+    x.saturating_sub(1)
 }
 
 pub fn lesser(a: usize, b: usize) -> usize
     ensures { result ≡ min a b }
 {
-    if a < b { a } else { b }
+    a.min(b)
 }
 
 pub fn pick(on: bool, x: u16, y: u16) -> u16
@@ -77,5 +77,5 @@ fn count(x: u32) -> usize
 pub fn top(w: u16) -> usize
     ensures { result ≡ top_of w }
 {
-    16 - count(u16::leading_zeros(w))
+    16 - w.leading_zeros() as usize
 }

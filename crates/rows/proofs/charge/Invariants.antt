@@ -6,6 +6,3 @@ use Rattle.rows.proofs.charge.Given as goal
 
 abbrev pub invariant-loop-i : goal.invariant-loop-i
 invariant-loop-i l = (l.i ≤ l.m) × (l.m ≡ rows_of l.n) × (l.counter ≡ over l.i (λ j x. x - 1) l.initial.counter)
-
-abbrev pub decreases-loop-i : goal.decreases-loop-i
-decreases-loop-i l = l.m - l.i

@@ -5,6 +5,3 @@ use Rattle.rows.proofs.idle_rows.Given as goal
 
 abbrev pub invariant-loop-first : goal.invariant-loop-first
 invariant-loop-first l = (l.first ≤ l.m) × (l.m ≡ rows_of l.n) × (l.first ≤ idle l.n l.left)
-
-abbrev pub decreases-loop-first : goal.decreases-loop-first
-decreases-loop-first l = l.m - l.first

@@ -8,6 +8,3 @@ use Rattle.rows.proofs.none_zero.Given as goal
 
 abbrev pub invariant-loop-i : goal.invariant-loop-i
 invariant-loop-i l = (l.i ≤ l.m) × (l.m ≡ rows_of l.n) × (every l.i (λ j. ltb 0 (at l.counter j)) ≡ true)
-
-abbrev pub decreases-loop-i : goal.decreases-loop-i
-decreases-loop-i l = l.m - l.i

@@ -7,6 +7,3 @@ use Rattle.rows.proofs.release.Given as goal
 
 abbrev pub invariant-loop-i : goal.invariant-loop-i
 invariant-loop-i l = (l.i ≤ l.m) × (l.m ≡ top_of l.due) × (l.left ≡ over l.i (λ j x. cond (bit l.due j) (at l.c j) x) l.initial.left)
-
-abbrev pub decreases-loop-i : goal.decreases-loop-i
-decreases-loop-i l = l.m - l.i

@@ -7,6 +7,3 @@ use Rattle.rows.proofs.reload.Given as goal
 abbrev pub invariant-loop-i : goal.invariant-loop-i
 invariant-loop-i l =
     (l.i ≤ l.m) × (l.m ≡ rows_of l.n) × (l.i ≤ idle l.n l.left) × (l.counter ≡ over l.i (λ j x. at l.k j) l.initial.counter)
-
-abbrev pub decreases-loop-i : goal.decreases-loop-i
-decreases-loop-i l = l.m - l.i
