@@ -13,9 +13,9 @@ use Rattle.seq.proofs.Places.{over_more, over_min}
 use Rattle.seq.proofs.Bytes.{big_part, sets_sets}
 use Rattle.seq.proofs.Tests.{both_true}
 use Rattle.table.specs.declared.Table.{Table}
-use Rattle.record.specs.declared.Row.{Row}
+use Rattle.table.specs.declared.Row.{Row}
 use Rattle.record.specs.Record.{row_place, row_spelt, column, rows_spelt, spelt, head_verdict, row_bytes, rows_bytes, head_bytes, record_of}
-use Rattle.table.specs.declared.Verdict.TheVariants.{Taken}
+use Rattle.table.specs.Verdicts.{Taken}
 use Rattle.table.proofs.Verdicts.{and_taken, refuse_taken}
 
 -- read
@@ -67,8 +67,8 @@ unfolding head_verdict
 head_taken s e =
     let p = and_taken _ _ e in
     let q = and_taken _ _ p.0 in
-    let l : 4 ≤ length s = ltb-false _ _ (refuse_taken _ _ _ q.0) in
-    let f = both_true _ _ (not-false _ (refuse_taken _ _ _ p.1)) in
+    let l : 4 ≤ length s = ltb-false _ _ (refuse_taken _ _ q.0) in
+    let f = both_true _ _ (not-false _ (refuse_taken _ _ p.1)) in
     let a : big_at s 1 ≡ length s - 3 = eqb-true _ _ f.0 in
     let b : big_at s 1 ≡ 1 + 6 * at s 3 = eqb-true _ _ f.1 in
-    (eqb-true _ _ (not-false _ (refuse_taken _ _ _ q.1)), b, omega arith)
+    (eqb-true _ _ (not-false _ (refuse_taken _ _ q.1)), b, omega arith)

@@ -11,9 +11,9 @@ use Rattle.seq.specs.Places.{at}
 use Rattle.seq.specs.Bytes.{big_at}
 use Rattle.seq.proofs.Tests.{both_true, true_false, no_true}
 use Rattle.table.specs.declared.Table.{Table}
-use Rattle.table.specs.declared.Verdict.{Verdict}
-use Rattle.table.specs.declared.Verdict.TheVariants.{Taken, Refused}
-use Rattle.table.specs.Verdicts.{refuse, ◌and_then◌}
+use Rattle.std.specs.Prelude.{Ok, Err}
+use Rattle.table.specs.declared.Refusal.TheVariants.{RecordShort, VersionUnknown, LengthWrong, BufferShort}
+use Rattle.table.specs.Verdicts.{Verdict, refuse, ◌and_then◌}
 use Rattle.table.specs.Form.{form_of}
 use Rattle.record.specs.Record.{row_place, spelt, head_verdict, read_verdict, write_verdict}
 use Rattle.table.specs.Refusals.{TableSays}
@@ -36,7 +36,7 @@ module _ (s : List ℕ) where
   is_fits f = rw (eq-eqb (big_at s 1) (length s - 3) f.0, eq-eqb (big_at s 1) (1 + 6 * at s 3) f.1)
 
   read_by : (a b e : Bool) → ltb (length s) 4 ≡ a → eqb (at s 0) 1 ≡ b → fits ≡ e
-      → ReadSays s (refuse a 1 0 and_then refuse (not b) 2 0 and_then refuse (not e) 3 0 and_then form_of (spelt s))
+      → ReadSays s (refuse a RecordShort and_then refuse (not b) VersionUnknown and_then refuse (not e) LengthWrong and_then form_of (spelt s))
   read_by true b e p q r = short (ltb-true _ _ p)
   read_by false false e p q r = version (ltb-false _ _ p) (eqb-false _ _ q)
   read_by false true false p q r = field (ltb-false _ _ p) (eqb-true _ _ q) (λ f. true_false (is_fits f) r)
@@ -58,10 +58,10 @@ module _ (s : List ℕ) where
 
 -- Writing.
 module _ (x : Table) (room : ℕ) where
-  write_by : (v : Verdict) → TableSays x v → (b : Bool) → ltb room (row_place x.n) ≡ b → WriteSays x room (v and_then refuse b 12 0)
-  write_by (Refused k r) t b e = form t
-  write_by Taken t true e = narrow t (ltb-true _ _ e)
-  write_by Taken t false e = enough t (ltb-false _ _ e)
+  write_by : (v : Verdict) → TableSays x v → (b : Bool) → ltb room (row_place x.n) ≡ b → WriteSays x room (v and_then refuse b BufferShort)
+  write_by (Err why) t b e = form t
+  write_by (Ok tt) t true e = narrow t (ltb-true _ _ e)
+  write_by (Ok tt) t false e = enough t (ltb-false _ _ e)
 
   write_says : WriteSays x room (write_verdict x room)
   unfolding write_verdict

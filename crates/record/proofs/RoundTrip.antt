@@ -15,9 +15,9 @@ use Rattle.seq.proofs.Places.{over_is, over_in}
 use Rattle.seq.proofs.Bytes.{big_bytes_lem, big_behind, part_one, part_big, append_bytes, one_byte, big_in_bytes}
 use Rattle.table.specs.declared.Table.{Table}
 use Rattle.record.specs.declared.Reading.{Reading}
-use Rattle.table.specs.declared.Verdict.{Verdict}
-use Rattle.table.specs.declared.Verdict.TheVariants.{Taken, Refused}
-use Rattle.table.specs.Verdicts.{refuse, taken}
+use Rattle.std.specs.Prelude.{Ok, Err}
+use Rattle.table.specs.declared.Refusal.TheVariants.{BufferShort}
+use Rattle.table.specs.Verdicts.{Verdict, Taken, refuse, taken}
 use Rattle.table.specs.Form.{form_of}
 use Rattle.record.specs.Record.{row_place, column, rows_spelt, spelt, head_verdict, read_verdict, read_of, row_bytes, rows_bytes, head_bytes, record_of, write_verdict, written_of, buffer_of}
 use Rattle.table.specs.WellFormed.{WellFormed}
@@ -87,18 +87,18 @@ reads_back x k e = rw (record_head x, record_spelt x k ((taken_iff x.n x.c x.t x
 pub buffer_reads_back : BufferReadsBack
 unfolding written_of buffer_of write_verdict
 buffer_reads_back x b k e =
-    let f = and_taken (form_of x) (refuse (ltb (length b) (row_place x.n)) 12 0) e in
+    let f = and_taken (form_of x) (refuse (ltb (length b) (row_place x.n)) BufferShort) e in
     rw (e, take_at (record_of x) (drop (row_place x.n) b) (row_place x.n) (record_length_lem x)) (reads_back x k f.0)
 
 taken_room : (x : Table) (room : ℕ) → write_verdict x room ≡ Taken → row_place x.n ≤ room
 unfolding write_verdict
-taken_room x room e = ltb-false room (row_place x.n) (refuse_taken (ltb room (row_place x.n)) 12 0 (and_taken (form_of x) (refuse (ltb room (row_place x.n)) 12 0) e).1)
+taken_room x room e = ltb-false room (row_place x.n) (refuse_taken (ltb room (row_place x.n)) BufferShort (and_taken (form_of x) (refuse (ltb room (row_place x.n)) BufferShort) e).1)
 
 rest_by : (x : Table) (b : List ℕ) (v : Verdict) → write_verdict x (length b) ≡ v
     → (drop (taken v (row_place x.n) 0) (taken v (record_of x ++ drop (row_place x.n) b) b) ≡ drop (taken v (row_place x.n) 0) b)
     × (length (taken v (record_of x ++ drop (row_place x.n) b) b) ≡ length b)
-rest_by x b (Refused k r) e = (refl, refl)
-rest_by x b Taken e = (
+rest_by x b (Err why) e = (refl, refl)
+rest_by x b (Ok tt) e = (
   drop_at (record_of x) (drop (row_place x.n) b) (row_place x.n) (record_length_lem x),
   rw (length-append (record_of x) (drop (row_place x.n) b), record_length_lem x, length-drop (row_place x.n) b) (omega (arith, taken_room x (length b) e)),
 )
@@ -109,8 +109,8 @@ rest_stays x b = rest_by x b (write_verdict x (length b)) refl
 
 -- as many bytes as the writer says are there
 fits_by : (x : Table) (room : ℕ) (v : Verdict) → write_verdict x room ≡ v → taken v (row_place x.n) 0 ≤ room
-fits_by x room (Refused k r) e = omega arith
-fits_by x room Taken e = taken_room x room e
+fits_by x room (Err why) e = omega arith
+fits_by x room (Ok tt) e = taken_room x room e
 
 pub written_fits : (x : Table) (b : List ℕ) → (written_of x (length b)).length ≤ length (buffer_of x b)
 unfolding written_of

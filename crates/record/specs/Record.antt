@@ -3,11 +3,11 @@ use Rattle.std.specs.Prelude.{ℕ, zero, suc, ◌+◌, ◌*◌, ◌-◌, List, [
 use Rattle.seq.specs.Places.{at, over}
 use Rattle.seq.specs.Bytes.{big_at, big_bytes}
 use Rattle.table.specs.declared.Table.{Table}
-use Rattle.record.specs.declared.Row.{Row}
+use Rattle.table.specs.declared.Row.{Row}
+use Rattle.table.specs.declared.Refusal.TheVariants.{RecordShort, VersionUnknown, LengthWrong, BufferShort}
 use Rattle.record.specs.declared.Reading.{Reading}
 use Rattle.record.specs.declared.Written.{Written}
-use Rattle.table.specs.declared.Verdict.{Verdict}
-use Rattle.table.specs.Verdicts.{refuse, ◌and_then◌, taken}
+use Rattle.table.specs.Verdicts.{Verdict, refuse, ◌and_then◌, taken}
 use Rattle.table.specs.Form.{form_of, no_table}
 
 -- the place of row i, and the length of a record of n rows
@@ -31,9 +31,9 @@ spelt s = rows_spelt s (at s 3)
 -- refusals 1, 2 and 3
 unfoldable pub head_verdict : List ℕ → Verdict
 head_verdict s =
-    refuse (ltb (length s) 4) 1 0
-    and_then refuse (not (eqb (at s 0) 1)) 2 0
-    and_then refuse (not (eqb (big_at s 1) (length s - 3) && eqb (big_at s 1) (1 + 6 * at s 3))) 3 0
+    refuse (ltb (length s) 4) RecordShort
+    and_then refuse (not (eqb (at s 0) 1)) VersionUnknown
+    and_then refuse (not (eqb (big_at s 1) (length s - 3) && eqb (big_at s 1) (1 + 6 * at s 3))) LengthWrong
 
 unfoldable pub read_verdict : List ℕ → Verdict
 read_verdict s = head_verdict s and_then form_of (spelt s)
@@ -58,7 +58,7 @@ record_of x = head_bytes x.n ++ rows_bytes x x.n
 
 -- refusals 4, 5, 6 and 12, for a buffer with so much room
 unfoldable pub write_verdict : Table → ℕ → Verdict
-write_verdict x room = form_of x and_then refuse (ltb room (row_place x.n)) 12 0
+write_verdict x room = form_of x and_then refuse (ltb room (row_place x.n)) BufferShort
 
 unfoldable pub written_of : Table → ℕ → Written
 written_of x room = record { verdict = write_verdict x room; length = taken (write_verdict x room) (row_place x.n) 0 }

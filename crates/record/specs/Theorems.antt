@@ -2,8 +2,7 @@
 use Rattle.std.specs.Prelude.{◌≡◌, List, ◌↔◌, ℕ, length, take, drop}
 use Rattle.seq.specs.Bytes.{Bytes}
 use Rattle.table.specs.declared.Table.{Table}
-use Rattle.table.specs.declared.Verdict.{Verdict}
-use Rattle.table.specs.declared.Verdict.TheVariants.{Taken}
+use Rattle.table.specs.Verdicts.{Verdict, Taken}
 use Rattle.table.specs.Form.{form_of}
 use Rattle.record.specs.Record.{read_verdict, read_of, record_of, write_verdict, written_of, buffer_of}
 use Rattle.record.specs.Refusals.{ReadSays, WriteSays}

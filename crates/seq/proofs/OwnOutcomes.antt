@@ -18,7 +18,7 @@ either_one : OneOutcome either.Post (λ κs x s. x)
 either_one = one_outcome either.Post _ _ (λ κs a x s p. p)
 
 byte_one : OneOutcome byte.Post (λ κs x s. x)
-byte_one = one_outcome byte.Post _ _ (λ κs a x s p. p.0)
+byte_one = one_outcome byte.Post _ _ (λ κs a x s p. p)
 
 big_one : OneOutcome big.Post (λ κs x s. x)
 big_one = one_outcome big.Post _ _ (λ κs a x s p. p)

@@ -8,9 +8,10 @@ use native.Mathlib.Omega.{arith}
 use native.Mathlib.Nat.{zero-min, min-zero, suc-min-suc}
 use lib.ListN.{length, get_or, set, replicate, take, drop, length-drop}
 use lib.Seq.{ext_get_or, take_all, take-nil}
-use Rattle.seq.specs.Places.{at, tab, over, lead, every}
+use Rattle.std.specs.Prelude.{Some}
+use Rattle.seq.specs.Places.{at, tab, over, lead, below, every}
 use Rattle.seq.proofs.Tests.{both_true}
-use borrow.Author.Tests.{ltb-true, ltb-false, leb-true, leb-false, le-leb, lt-leb}
+use borrow.Author.Tests.{ltb-true, ltb-false, leb-true, leb-false, lt-ltb, le-leb, lt-leb}
 use lib.Dec.{ltb, leb}
 
 pub at_zeros : (n i : ℕ) → at (replicate n 0) i ≡ 0
@@ -170,6 +171,10 @@ unfolding lead
 lead_hit zero p i h e g = absurd (omega arith)
 lead_hit (suc n) p zero h e g = rw e
 lead_hit (suc n) p (suc i) h e g = step_hit (p 0) (lead_hit n (λ j. p (suc j)) i (omega arith) e) g
+
+-- the walk stops there
+pub below_hit : (n : ℕ) (p : ℕ → Bool) (i : ℕ) → i < n → p i ≡ false → i ≤ lead n p → Some i ≡ below n (lead n p)
+below_hit n p i h e g = rw (lead_hit n p i h e g, lt-ltb i n h)
 
 -- where all have p, each has it
 step_all : (b : Bool) {x n : ℕ} → x ≤ n → suc n ≤ cond b (suc x) 0 → (b ≡ true) × (n ≤ x)

@@ -1,5 +1,5 @@
 -- Lists as functions of a place's number, and back.
-use Rattle.std.specs.Prelude.{ℕ, zero, suc, List, [], ◌∷◌, Bool, true, false, cond, ◌&&◌, get_or}
+use Rattle.std.specs.Prelude.{ℕ, zero, suc, List, [], ◌∷◌, Option, Some, None, Bool, true, false, cond, ◌&&◌, ltb, get_or}
 
 -- 1 for true
 abbrev pub flag : Bool → ℕ
@@ -25,6 +25,10 @@ over (suc n) f (x ∷ l) = f 0 x ∷ over n (λ i. f (suc i)) l
 unfoldable pub lead : ℕ → (ℕ → Bool) → ℕ
 lead zero p = 0
 lead (suc n) p = cond (p 0) (suc (lead n (λ i. p (suc i)))) 0
+
+-- the place i, if it is one of the first n
+abbrev pub below : ℕ → ℕ → Option ℕ
+below n i = cond (ltb i n) (Some i) None
 
 -- each of 0, .. n - 1 has p
 unfoldable pub every : ℕ → (ℕ → Bool) → Bool

@@ -20,24 +20,18 @@ pub fn either(a: bool, b: bool) -> bool
     a | b
 }
 
-fn wide(x: u8) -> u16
-    ensures { (result ≡ x) × (result < 256) }
-{
-    u16::from(x)
-}
-
 // The byte at a place, 0 past the end.
-pub fn byte(s: &[u8], p: usize) -> u16
-    ensures { (result ≡ at s.now p) × (result < 256) }
+pub fn byte(s: &[u8], p: usize) -> u8
+    ensures { result ≡ at s.now p }
 {
-    u16::from(s.get(p).copied().unwrap_or(0))
+    s.get(p).copied().unwrap_or(0)
 }
 
 // The number of a part's first two bytes, the high one first.
 pub fn big(s: &[u8]) -> u16
     ensures { result ≡ big_at s.now 0 }
 {
-    u16::from_be_bytes([s.get(0).copied().unwrap_or(0), s.get(1).copied().unwrap_or(0)])
+    u16::from_be_bytes([byte(s, 0), byte(s, 1)])
 }
 
 // One less, and 0 stays.
@@ -65,12 +59,6 @@ pub fn has(w: u16, i: usize) -> bool
     ensures { result ≡ bit w i }
 {
     if i < 16 { (w >> i) % 2 == 1 } else { false }
-}
-
-fn count(x: u32) -> usize
-    ensures { result ≡ x }
-{
-    x as usize
 }
 
 // All bits from there on are 0: a walk over the set bits need go no further.

@@ -1,15 +1,14 @@
 -- Laws of verdicts.
 use mathlib.Core.Path.{◌≡◌, refl}
 use mathlib.Core.Bool.{Bool, true, false}
-use Prim.Native.Nat.{ℕ}
-use Rattle.table.specs.declared.Verdict.{Verdict}
-use Rattle.table.specs.declared.Verdict.TheVariants.{Taken, Refused}
-use Rattle.table.specs.Verdicts.{refuse, ◌and_then◌}
+use Rattle.std.specs.Prelude.{Ok, Err}
+use Rattle.table.specs.declared.Refusal.{Refusal}
+use Rattle.table.specs.Verdicts.{Verdict, Taken, refuse, ◌and_then◌}
 
 pub and_taken : (v w : Verdict) → v and_then w ≡ Taken → (v ≡ Taken) × (w ≡ Taken)
-and_taken Taken w e = (refl, e)
-and_taken (Refused k r) w e = ((cc), (cc))
+and_taken (Ok tt) w e = (refl, e)
+and_taken (Err why) w e = (cc, cc)
 
-pub refuse_taken : (b : Bool) (k r : ℕ) → refuse b k r ≡ Taken → b ≡ false
-refuse_taken true k r e = cc
-refuse_taken false k r e = refl
+pub refuse_taken : (b : Bool) (why : Refusal) → refuse b why ≡ Taken → b ≡ false
+refuse_taken true why e = cc
+refuse_taken false why e = refl

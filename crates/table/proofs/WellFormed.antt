@@ -12,9 +12,9 @@ use Rattle.seq.proofs.Tests.{both_true, either_true, either_false, true_false, n
 use Rattle.seq.proofs.Places.{lead_most, lead_before, lead_stop, lead_is, lead_full}
 use Rattle.table.specs.Refusals.{FormSays}
 use Rattle.table.specs.Refusals.FormSays.{count, row, period, well}
-use Rattle.table.specs.declared.Verdict.{Verdict}
-use Rattle.table.specs.declared.Verdict.TheVariants.{Taken, Refused}
-use Rattle.table.specs.Verdicts.{refuse, ◌and_then◌}
+use Rattle.std.specs.Prelude.{Err}
+use Rattle.table.specs.declared.Refusal.TheVariants.{RowCount, RowUnsound, PeriodFalls}
+use Rattle.table.specs.Verdicts.{Verdict, Taken, refuse, ◌and_then◌}
 use Rattle.table.specs.Form.{in_order, all_zero, sound, unsound_row, rising, falling_row, count_verdict, rows_verdict, periods_verdict, form_verdict}
 use Rattle.table.specs.WellFormed.{Ordered, Zero, Counted, Sound, WellFormed}
 use Rattle.table.proofs.Verdicts.{and_taken, refuse_taken}
@@ -136,14 +136,14 @@ module _ (n : ℕ) (c t d : List ℕ) where
 module _ (n : ℕ) (c t d : List ℕ) where
   -- the first row whose period falls, as a row that follows another
   period_says : Counted n → ((j : ℕ) → j < 16 → Sound n c t d j) → (f : ℕ) → f < n → at t f < at t (f - 1) → ((j : ℕ) → j < f → at t (j - 1) ≤ at t j)
-      → FormSays n c t d (Refused 6 (suc f))
+      → FormSays n c t d (Err (PeriodFalls (suc f)))
   period_says k s zero h l b = absurd (omega arith)
   period_says k s (suc i) h l b =
       let e : (j : ℕ) → suc j - 1 ≡ j = λ j. omega arith in
       period k s i h (rw (e i) at l) (λ j g. rw (e j) at (b (suc j) (omega arith)))
 
   says : (a b e : Bool) → (eqb n 0 || ltb 16 n) ≡ a → ltb (unsound_row n c t d) 16 ≡ b → ltb (falling_row n t) (min n 16) ≡ e
-      → FormSays n c t d (refuse a 4 0 and_then refuse b 5 (suc (unsound_row n c t d)) and_then refuse e 6 (suc (falling_row n t)))
+      → FormSays n c t d (refuse a RowCount and_then refuse b (RowUnsound (suc (unsound_row n c t d))) and_then refuse e (PeriodFalls (suc (falling_row n t))))
   says true b e p q r = count (⊎_elim (λ x. inl (eqb-true n 0 x)) (λ y. inr (ltb-true 16 n y)) (either_true (eqb n 0) (ltb 16 n) p))
   says false true e p q r = row (counted_is n p) (unsound_row n c t d) (ltb-true _ _ q) (unsound_at n c t d (ltb-true _ _ q)) (unsound_before n c t d)
   says false false true p q r =
@@ -160,7 +160,7 @@ module _ (n : ℕ) (c t d : List ℕ) where
   unfolding form_verdict count_verdict rows_verdict periods_verdict
   form_says = says (eqb n 0 || ltb 16 n) (ltb (unsound_row n c t d) 16) (ltb (falling_row n t) (min n 16)) refl refl refl
 
-  count_refused : (n ≡ 0) ⊎ (16 < n) → count_verdict n ≡ Refused 4 0
+  count_refused : (n ≡ 0) ⊎ (16 < n) → count_verdict n ≡ Err RowCount
   unfolding count_verdict
   count_refused h = ⊎_elim (λ z. rw (eq-eqb n 0 z)) (λ l. rw (ne_eqb n 0 (λ z. omega arith), lt-ltb 16 n l)) h
 
@@ -172,7 +172,7 @@ module _ (n : ℕ) (c t d : List ℕ) where
   unfolding rows_verdict
   rows_passed s = rw (unsound_none n c t d s)
 
-  rows_refused : (i : ℕ) → i < 16 → (Sound n c t d i → ⊥) → ((j : ℕ) → j < i → Sound n c t d j) → rows_verdict n c t d ≡ Refused 5 (suc i)
+  rows_refused : (i : ℕ) → i < 16 → (Sound n c t d i → ⊥) → ((j : ℕ) → j < i → Sound n c t d j) → rows_verdict n c t d ≡ Err (RowUnsound (suc i))
   unfolding rows_verdict
   rows_refused i h u b = rw (unsound_is n c t d i h u b, lt-ltb i 16 h)
 
@@ -180,7 +180,7 @@ module _ (n : ℕ) (c t d : List ℕ) where
   unfolding periods_verdict
   periods_passed w = rw (falling_none n t (λ j h. back t n w.rises j (omega arith)), le-ltb (min n 16) (min n 16) (omega arith))
 
-  periods_refused : Counted n → (i : ℕ) → suc i < n → at t (suc i) < at t i → ((j : ℕ) → j < i → at t j ≤ at t (suc j)) → periods_verdict n t ≡ Refused 6 (suc (suc i))
+  periods_refused : Counted n → (i : ℕ) → suc i < n → at t (suc i) < at t i → ((j : ℕ) → j < i → at t j ≤ at t (suc j)) → periods_verdict n t ≡ Err (PeriodFalls (suc (suc i)))
   unfolding periods_verdict
   periods_refused k i h l b =
       let e : suc i - 1 ≡ i = omega arith in
@@ -206,7 +206,7 @@ module _ (n : ℕ) (c t d : List ℕ) where
 -- a table that is taken
 pub count_taken : (n : ℕ) → count_verdict n ≡ Taken → Counted n
 unfolding count_verdict
-count_taken n e = counted_is n (refuse_taken (eqb n 0 || ltb 16 n) 4 0 e)
+count_taken n e = counted_is n (refuse_taken (eqb n 0 || ltb 16 n) RowCount e)
 
 pub taken_few : (n : ℕ) (c t d : List ℕ) → form_verdict n c t d ≡ Taken → n ≤ 16
 taken_few n c t d e = (count_taken n (form_parts n c t d e).0).1

@@ -2,8 +2,8 @@
 use Rattle.std.specs.Prelude.{ℕ, suc, ◌-◌, min, List, Bool, cond, ◌&&◌, ◌||◌, eqb, ltb, leb, replicate}
 use Rattle.seq.specs.Places.{at, lead}
 use Rattle.table.specs.declared.Table.{Table}
-use Rattle.table.specs.declared.Verdict.{Verdict}
-use Rattle.table.specs.Verdicts.{refuse, ◌and_then◌}
+use Rattle.table.specs.declared.Refusal.TheVariants.{RowCount, RowUnsound, PeriodFalls}
+use Rattle.table.specs.Verdicts.{Verdict, refuse, ◌and_then◌}
 
 -- 1 ≤ C ≤ D ≤ T ≤ 4,096
 abbrev pub in_order : ℕ → ℕ → ℕ → Bool
@@ -31,13 +31,13 @@ unfoldable pub falling_row : ℕ → List ℕ → ℕ
 falling_row n t = lead (min n 16) (rising t)
 
 unfoldable pub count_verdict : ℕ → Verdict
-count_verdict n = refuse (eqb n 0 || ltb 16 n) 4 0
+count_verdict n = refuse (eqb n 0 || ltb 16 n) RowCount
 
 unfoldable pub rows_verdict : ℕ → List ℕ → List ℕ → List ℕ → Verdict
-rows_verdict n c t d = refuse (ltb (unsound_row n c t d) 16) 5 (suc (unsound_row n c t d))
+rows_verdict n c t d = refuse (ltb (unsound_row n c t d) 16) (RowUnsound (suc (unsound_row n c t d)))
 
 unfoldable pub periods_verdict : ℕ → List ℕ → Verdict
-periods_verdict n t = refuse (ltb (falling_row n t) (min n 16)) 6 (suc (falling_row n t))
+periods_verdict n t = refuse (ltb (falling_row n t) (min n 16)) (PeriodFalls (suc (falling_row n t)))
 
 unfoldable pub form_verdict : ℕ → List ℕ → List ℕ → List ℕ → Verdict
 form_verdict n c t d = count_verdict n and_then rows_verdict n c t d and_then periods_verdict n t

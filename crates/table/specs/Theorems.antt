@@ -1,8 +1,7 @@
 -- What is proved of the form of tables. Each statement is a type; proofs/Theorems.antt gives a proof of each, under the same name in
 -- small letters.
 use Rattle.std.specs.Prelude.{◌≡◌, List, ◌↔◌, ℕ}
-use Rattle.table.specs.declared.Verdict.{Verdict}
-use Rattle.table.specs.declared.Verdict.TheVariants.{Taken}
+use Rattle.table.specs.Verdicts.{Verdict, Taken}
 use Rattle.table.specs.Form.{form_verdict}
 use Rattle.table.specs.WellFormed.{WellFormed}
 use Rattle.table.specs.Refusals.{FormSays}

@@ -2,11 +2,10 @@
 
 #![tactic(auto)]
 
-ghost use Rattle.std.specs.Prelude.{◌≡◌, cond, ◌-◌};
-ghost use Rattle.table.specs.Verdicts.{number_of, row_named, refuse, ◌and_then◌};
-ghost use Rattle.table.specs.Form.{in_order, all_zero, unsound_row, falling_row, count_verdict, rows_verdict, periods_verdict, form_verdict};
-
-use seq::{both, either, lesser};
+ghost use Rattle.std.specs.Prelude.{◌≡◌, cond, min, replicate};
+ghost use Rattle.seq.specs.Places.{below};
+ghost use Rattle.table.specs.Verdicts.{number, row, number_of, row_named, refuse};
+ghost use Rattle.table.specs.Form.{in_order, all_zero, unsound_row, falling_row, count_verdict, rows_verdict, periods_verdict, form_of};
 
 // Rows in priority order: C slots in each period of T, by the deadline D. Those past n are zero.
 #[repr(C)]
@@ -18,19 +17,69 @@ pub struct Table {
     pub d: [u16; 16],
 }
 
-// Refused with its number and the row it names, from 1 on; 0 names none.
 #[derive(Clone, Copy)]
-pub enum Verdict {
-    Taken,
-    Refused(u8, usize),
+pub struct Row {
+    pub c: u16,
+    pub t: u16,
+    pub d: u16,
+}
+
+// Why a call is refused, in the order of document 01's numbers. Three name a row, from 1 on.
+#[derive(Clone, Copy, PartialEq, Eq)]
+pub enum Refusal {
+    RecordShort,
+    VersionUnknown,
+    LengthWrong,
+    RowCount,
+    RowUnsound(usize),
+    PeriodFalls(usize),
+    RowLacks(usize),
+    SizeZero,
+    QueueFull,
+    RunOver,
+    StateIllegal,
+    BufferShort,
+}
+
+pub type Verdict = Result<(), Refusal>;
+
+impl Refusal {
+    pub fn number(self) -> u8
+        ensures { result ≡ number self }
+    {
+        match self {
+            Refusal::RecordShort => 1,
+            Refusal::VersionUnknown => 2,
+            Refusal::LengthWrong => 3,
+            Refusal::RowCount => 4,
+            Refusal::RowUnsound(_) => 5,
+            Refusal::PeriodFalls(_) => 6,
+            Refusal::RowLacks(_) => 7,
+            Refusal::SizeZero => 8,
+            Refusal::QueueFull => 9,
+            Refusal::RunOver => 10,
+            Refusal::StateIllegal => 11,
+            Refusal::BufferShort => 12,
+        }
+    }
+
+    // The row that it names, 0 for none.
+    pub fn row(self) -> usize
+        ensures { result ≡ row self }
+    {
+        match self {
+            Refusal::RowUnsound(row) | Refusal::PeriodFalls(row) | Refusal::RowLacks(row) => row,
+            _ => 0,
+        }
+    }
 }
 
 pub fn number_of(v: Verdict) -> u8
     ensures { result ≡ number_of v }
 {
     match v {
-        Verdict::Taken => 0,
-        Verdict::Refused(number, _) => number
+        Ok(()) => 0,
+        Err(why) => why.number(),
     }
 }
 
@@ -38,116 +87,123 @@ pub fn row_named(v: Verdict) -> usize
     ensures { result ≡ row_named v }
 {
     match v {
-        Verdict::Taken => 0,
-        Verdict::Refused(_, row) => row
+        Ok(()) => 0,
+        Err(why) => why.row(),
     }
 }
 
-fn in_order(c: u16, t: u16, d: u16) -> bool
-    ensures { result ≡ in_order c t d }
-{
-    both(both(both(1 <= c, c <= d), d <= t), t <= 4096)
-}
-
-fn all_zero(c: u16, t: u16, d: u16) -> bool
-    ensures { result ≡ all_zero c t d }
-{
-    both(both(c == 0, t == 0), d == 0)
-}
-
-fn is_sound(inside: bool, c: u16, t: u16, d: u16) -> bool
-    ensures { result ≡ cond inside (in_order c t d) (all_zero c t d) }
-{
-    if inside {
-        in_order(c, t, d)
-    } else {
-        all_zero(c, t, d)
-    }
-}
-
-// The first row that is not as it should be, 16 if all are.
-fn unsound_row<'a>(n: usize, c: &'a [u16; 16], t: &'a [u16; 16], d: &'a [u16; 16]) -> usize
-    ensures { result ≡ unsound_row n c.now t.now d.now }
-{
-    let mut i = 0;
-    while i < 16 {
-        let ok = is_sound(i < n, c[i], t[i], d[i]);
-        if !ok {
-            return i;
-        }
-        i += 1;
-    }
-    16
-}
-
-fn before(i: usize) -> usize
-    ensures { result ≡ i - 1 }
-{
-    if i == 0 { 0 } else { i - 1 }
-}
-
-// The first row whose period is below the one before, n if none is.
-fn falling_row(n: usize, t: &[u16; 16]) -> usize
-    ensures { result ≡ falling_row n t.now }
-{
-    let m = lesser(n, 16);
-    let mut i = 0;
-    while i < m {
-        let b = before(i);
-        if t[i] < t[b] {
-            return i;
-        }
-        i += 1;
-    }
-    m
-}
-
-// Refused with that number and row where told, else taken.
-pub fn refusal(b: bool, number: u8, row: usize) -> Verdict
-    ensures { result ≡ refuse b number row }
+// Refused for that reason where told, else taken.
+pub fn refuse(b: bool, why: Refusal) -> Verdict
+    ensures { result ≡ refuse b why }
 {
     if b {
-        Verdict::Refused(number, row)
-    } else {
-        Verdict::Taken
+        return Err(why);
+    }
+    Ok(())
+}
+
+impl Row {
+    fn in_order(self) -> bool
+        ensures { result ≡ in_order self.c self.t self.d }
+    {
+        (1 <= self.c) & (self.c <= self.d) & (self.d <= self.t) & (self.t <= 4096)
+    }
+
+    fn all_zero(self) -> bool
+        ensures { result ≡ all_zero self.c self.t self.d }
+    {
+        (self.c == 0) & (self.t == 0) & (self.d == 0)
+    }
+
+    fn is_sound(self, inside: bool) -> bool
+        ensures { result ≡ cond inside (in_order self.c self.t self.d) (all_zero self.c self.t self.d) }
+    {
+        if inside {
+            self.in_order()
+        } else {
+            self.all_zero()
+        }
     }
 }
 
+#[tactic(auto, unfolding(crate::specs::Form::count_verdict))]
 fn count_verdict(n: usize) -> Verdict
     ensures { result ≡ count_verdict n }
 {
-    refusal(either(n == 0, 16 < n), 4, 0)
+    refuse((n == 0) | (16 < n), Refusal::RowCount)
 }
 
-fn rows_verdict<'a>(n: usize, c: &'a [u16; 16], t: &'a [u16; 16], d: &'a [u16; 16]) -> Verdict
-    ensures { result ≡ rows_verdict n c.now t.now d.now }
-{
-    let i = unsound_row(n, c, t, d);
-    refusal(i < 16, 5, i + 1)
-}
-
-fn periods_verdict(n: usize, t: &[u16; 16]) -> Verdict
-    ensures { result ≡ periods_verdict n t.now }
-{
-    let i = falling_row(n, t);
-    refusal(i < lesser(n, 16), 6, i + 1)
-}
-
-fn and_then(v: Verdict, w: Verdict) -> Verdict
-    ensures { result ≡ (v and_then w) }
-{
-    match v {
-        Verdict::Taken => w,
-        Verdict::Refused(number, row) => Verdict::Refused(number, row)
+impl Table {
+    // So many rows, all of zeros.
+    pub fn zeros(n: usize) -> Table
+        ensures { result ≡ record { n = n; c = replicate 16 0; t = replicate 16 0; d = replicate 16 0 } }
+    {
+        Table {
+            n,
+            c: [0; 16],
+            t: [0; 16],
+            d: [0; 16],
+        }
     }
-}
 
-// Refusals 4, 5 and 6 of a table that stands in four places.
-pub fn form<'a>(n: usize, c: &'a [u16; 16], t: &'a [u16; 16], d: &'a [u16; 16]) -> Verdict
-    ensures { result ≡ form_verdict n c.now t.now d.now }
-{
-    let v = count_verdict(n);
-    let w = rows_verdict(n, c, t, d);
-    let z = periods_verdict(n, t);
-    and_then(and_then(v, w), z)
+    // The first row that is not as it should be.
+    fn unsound_row(&self) -> Option<usize>
+        ensures { result ≡ below 16 (unsound_row self.now.n self.now.c self.now.t self.now.d) }
+    {
+        for i in 0..16 {
+            let row = Row {
+                c: self.c[i],
+                t: self.t[i],
+                d: self.d[i],
+            };
+            let ok = row.is_sound(i < self.n);
+            if !ok {
+                return Some(i);
+            }
+        }
+        None
+    }
+
+    // The first row whose period is below the one before.
+    fn falling_row(&self) -> Option<usize>
+        ensures { result ≡ below (min self.now.n 16) (falling_row self.now.n self.now.t) }
+    {
+        for i in 0..self.n.min(16) {
+            let before = i.saturating_sub(1);
+            if self.t[i] < self.t[before] {
+                return Some(i);
+            }
+        }
+        None
+    }
+
+    #[tactic(auto, unfolding(crate::specs::Form::rows_verdict), using(crate::proofs::WellFormed::unsound_most))]
+    fn rows_verdict(&self) -> Verdict
+        ensures { result ≡ rows_verdict self.now.n self.now.c self.now.t self.now.d }
+    {
+        match self.unsound_row() {
+            Some(i) => Err(Refusal::RowUnsound(i + 1)),
+            None => Ok(()),
+        }
+    }
+
+    #[tactic(auto, unfolding(crate::specs::Form::periods_verdict), using(crate::proofs::WellFormed::falling_most))]
+    fn periods_verdict(&self) -> Verdict
+        ensures { result ≡ periods_verdict self.now.n self.now.t }
+    {
+        match self.falling_row() {
+            Some(i) => Err(Refusal::PeriodFalls(i + 1)),
+            None => Ok(()),
+        }
+    }
+
+    // Refusals 4, 5 and 6.
+    #[tactic(auto, unfolding(crate::specs::Form::form_verdict))]
+    pub fn form(&self) -> Verdict
+        ensures { result ≡ form_of self.now }
+    {
+        count_verdict(self.n)?;
+        self.rows_verdict()?;
+        self.periods_verdict()
+    }
 }
