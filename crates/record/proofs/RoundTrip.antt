@@ -90,7 +90,7 @@ buffer_reads_back x b k e =
     let f = and_taken (form_of x) (refuse (ltb (length b) (row_place x.n)) BufferShort) e in
     rw (e, take_at (record_of x) (drop (row_place x.n) b) (row_place x.n) (record_length_lem x)) (reads_back x k f.0)
 
-taken_room : (x : Table) (room : ℕ) → write_verdict x room ≡ Taken → row_place x.n ≤ room
+pub taken_room : (x : Table) (room : ℕ) → write_verdict x room ≡ Taken → row_place x.n ≤ room
 unfolding write_verdict
 taken_room x room e = ltb-false room (row_place x.n) (refuse_taken (ltb room (row_place x.n)) BufferShort (and_taken (form_of x) (refuse (ltb room (row_place x.n)) BufferShort) e).1)
 
@@ -108,6 +108,10 @@ unfolding written_of buffer_of
 rest_stays x b = rest_by x b (write_verdict x (length b)) refl
 
 -- as many bytes as the writer says are there
+pub taken_rows : (x : Table) (room : ℕ) → write_verdict x room ≡ Taken → x.n ≤ 16
+unfolding write_verdict
+taken_rows x room e = taken_few _ _ _ _ (and_taken (form_of x) (refuse (ltb room (row_place x.n)) BufferShort) e).0
+
 fits_by : (x : Table) (room : ℕ) (v : Verdict) → write_verdict x room ≡ v → taken v (row_place x.n) 0 ≤ room
 fits_by x room (Err why) e = omega arith
 fits_by x room (Ok tt) e = taken_room x room e

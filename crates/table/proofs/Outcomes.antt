@@ -6,6 +6,7 @@ use Rattle.table.proofs.row_named.Reads as row_named
 use Rattle.table.proofs.refuse.Reads as refuse
 use Rattle.table.proofs.Table.form.Reads as form
 use Rattle.table.proofs.Table.zeros.Reads as zeros
+use Rattle.table.proofs.Table.row.Reads as row
 use Rattle.table.proofs.Refusal.number.Reads as number_in
 use Rattle.table.proofs.Refusal.row.Reads as row_in
 
@@ -29,3 +30,6 @@ number_in_one = one_outcome number_in.Post _ _ (λ κs a x s p. p)
 
 row_in_one : OneOutcome row_in.Post (λ κs x s. x)
 row_in_one = one_outcome row_in.Post _ _ (λ κs a x s p. p)
+
+row_one : OneOutcome row.Post (λ κs x s. x)
+row_one = one_outcome row.Post _ _ (λ κs a x s p. p)

@@ -3,9 +3,9 @@
 #![tactic(auto)]
 
 ghost use Rattle.std.specs.Prelude.{◌≡◌, cond, min, replicate};
-ghost use Rattle.seq.specs.Places.{below};
+ghost use Rattle.seq.specs.Places.{at, below};
 ghost use Rattle.table.specs.Verdicts.{number, row, number_of, row_named, refuse};
-ghost use Rattle.table.specs.Form.{in_order, all_zero, unsound_row, falling_row, count_verdict, rows_verdict, periods_verdict, form_of};
+ghost use Rattle.table.specs.Form.{in_order, all_zero, sound, unsound_row, falling_row, count_verdict, rows_verdict, periods_verdict, form_of};
 
 // Rows in priority order: C slots in each period of T, by the deadline D. Those past n are zero.
 #[repr(C)]
@@ -146,17 +146,30 @@ impl Table {
         }
     }
 
+    // Row i, counted from 0; zeros where there is no such place.
+    pub fn row(&self, i: usize) -> Row
+        ensures { result ≡ record { c = at self.now.c i; t = at self.now.t i; d = at self.now.d i } }
+    {
+        Row {
+            c: self.c.get(i).copied().unwrap_or(0),
+            t: self.t.get(i).copied().unwrap_or(0),
+            d: self.d.get(i).copied().unwrap_or(0),
+        }
+    }
+
+    #[tactic(auto, unfolding(crate::specs::Form::sound))]
+    fn is_sound(&self, i: usize) -> bool
+        ensures { result ≡ sound self.now.n self.now.c self.now.t self.now.d i }
+    {
+        self.row(i).is_sound(i < self.n)
+    }
+
     // The first row that is not as it should be.
     fn unsound_row(&self) -> Option<usize>
         ensures { result ≡ below 16 (unsound_row self.now.n self.now.c self.now.t self.now.d) }
     {
         for i in 0..16 {
-            let row = Row {
-                c: self.c[i],
-                t: self.t[i],
-                d: self.d[i],
-            };
-            let ok = row.is_sound(i < self.n);
+            let ok = self.is_sound(i);
             if !ok {
                 return Some(i);
             }

@@ -5,24 +5,17 @@
 ghost use Rattle.std.specs.Prelude.{◌≡◌, ◌++◌, ◌+◌, ◌≤◌, ◌<◌, length};
 ghost use Rattle.std.proofs.lemmas.List.Edits.{sets};
 ghost use Rattle.seq.specs.Bytes.{big_bytes};
-ghost use Rattle.record.specs.Record.{row_place, rows_bytes, head_bytes, written_of, buffer_of};
+ghost use Rattle.table.specs.Verdicts.{granted};
+ghost use Rattle.record.specs.Record.{row_place, row_bytes, rows_bytes, head_bytes, write_verdict, written_of, buffer_of};
 
 use record::Written;
-use table::{Table, Verdict, form};
+use table::{Refusal, Row, Table, refuse};
 
 fn put_big(b: &mut [u8], p: usize, x: u16)
     requires { p + 1 < length b.old }
     ensures { b.new ≡ sets b.old p (big_bytes x) }
 {
-    b[p] = (x / 256) as u8;
-    b[p + 1] = (x % 256) as u8;
-}
-
-fn narrow(n: usize) -> u16
-    requires { n < 65536 }
-    ensures { result ≡ n }
-{
-    n as u16
+    b[p..p + 2].copy_from_slice(&x.to_be_bytes());
 }
 
 fn put_head(b: &mut [u8], n: usize)
@@ -30,54 +23,55 @@ fn put_head(b: &mut [u8], n: usize)
     ensures { b.new ≡ sets b.old 0 (head_bytes n) }
 {
     b[0] = 1;
-    put_big(&mut *b, 1, narrow(1 + 6 * n));
+    put_big(b, 1, (1 + 6 * n) as u16);
     b[3] = n as u8;
 }
 
-fn put_row(b: &mut [u8], p: usize, c: u16, t: u16, d: u16)
+fn put_row(b: &mut [u8], p: usize, row: Row)
     requires { p + 6 ≤ length b.old }
-    ensures { b.new ≡ sets b.old p (big_bytes c ++ big_bytes t ++ big_bytes d) }
+    ensures { b.new ≡ sets b.old p (big_bytes row.c ++ big_bytes row.t ++ big_bytes row.d) }
 {
-    put_big(&mut *b, p, c);
-    put_big(&mut *b, p + 2, t);
-    put_big(&mut *b, p + 4, d);
+    put_big(b, p, row.c);
+    put_big(b, p + 2, row.t);
+    put_big(b, p + 4, row.d);
 }
 
-fn put_rows(b: &mut [u8], x: Table)
-    requires { (x.n ≤ 16) × (row_place x.n ≤ length b.old) }
-    ensures { b.new ≡ sets b.old 4 (rows_bytes x x.n) }
+fn put_rows(b: &mut [u8], x: &Table)
+    requires { (x.now.n ≤ 16) × (row_place x.now.n ≤ length b.old) }
+    ensures { b.new ≡ sets b.old 4 (rows_bytes x.now x.now.n) }
 {
-    let n = x.n;
-    let mut i = 0;
-    while i < n {
-        put_row(&mut *b, 4 + 6 * i, x.c[i], x.t[i], x.d[i]);
-        i += 1;
+    for i in 0..x.n {
+        put_row(b, 4 + 6 * i, x.row(i));
     }
+}
+
+// The bytes that a table's record has, where there is room for them.
+#[tactic(auto, using(table::proofs::WellFormed::taken_few), unfolding(record::specs::Record::write_verdict))]
+fn record_length(x: &Table, room: usize) -> Result<usize, Refusal>
+    ensures { result ≡ granted (write_verdict x.now room) (row_place x.now.n) }
+{
+    x.form()?;
+    let length = 4 + 6 * x.n;
+    refuse(room < length, Refusal::BufferShort)?;
+    Ok(length)
 }
 
 // The record in the first bytes of the buffer; the rest stays, and so does all of it where the table is refused.
 pub fn write(x: Table, b: &mut [u8]) -> Written
     ensures { (result ≡ written_of x (length b.old)) × (b.new ≡ buffer_of x b.old) }
 {
-    let n = x.n;
-    let v = form(n, &x.c, &x.t, &x.d);
-    let Verdict::Taken = v else {
-        return Written {
-            verdict: v,
+    match record_length(&x, b.len()) {
+        Ok(length) => {
+            put_head(b, x.n);
+            put_rows(b, &x);
+            Written {
+                verdict: Ok(()),
+                length,
+            }
+        }
+        Err(why) => Written {
+            verdict: Err(why),
             length: 0,
-        };
-    };
-    let e = 4 + 6 * n;
-    if b.len() < e {
-        return Written {
-            verdict: Verdict::Refused(12, 0),
-            length: 0,
-        };
-    }
-    put_head(&mut *b, n);
-    put_rows(&mut *b, x);
-    Written {
-        verdict: Verdict::Taken,
-        length: e,
+        },
     }
 }

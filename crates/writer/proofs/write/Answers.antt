@@ -1,46 +1,34 @@
-use mathlib.Core.Path.{ap, sym, ◌∙◌}
-use borrow.Author.Tests.{lt-ltb, le-ltb}
-use lib.ListN.{length}
+use Rattle.std.proofs.Common.{sym, ◌∙◌, ap, length, arith}
 use lib.Seq.{length-sets}
+use Rattle.table.proofs.Verdicts.{granted_ok, granted_err}
+use Rattle.record.specs.Record.{head_bytes, write_verdict, written_of, buffer_of}
 use Rattle.record.proofs.Record.{record_put}
-use Rattle.table.proofs.WellFormed.{taken_few}
-use Rattle.record.specs.Record.{row_place, head_bytes, write_verdict, written_of, buffer_of}
-use native.Mathlib.Omega.{arith}
+use Rattle.record.proofs.RoundTrip.{taken_rows, taken_room}
 use Rattle.writer.proofs.write.Goals as goal
 
-pub returns-in_default : goal.returns-in_default
-unfolding written_of buffer_of write_verdict
-returns-in_default c =
-    let e = sym c.form-v.ensures ∙ c.in_default.is in
-    (rw (c.form-v.ensures, e), rw e)
-
-pub overflow_mul-e : goal.overflow_mul-e
-overflow_mul-e c = omega (arith, taken_few _ _ _ _ (sym c.form-v.ensures ∙ c.in-Taken.is))
-
-pub overflow_add-e : goal.overflow_add-e
-overflow_add-e c = omega (arith, taken_few _ _ _ _ (sym c.form-v.ensures ∙ c.in-Taken.is))
-
-pub returns-then-b-e : goal.returns-then-b-e
-unfolding written_of buffer_of write_verdict
-returns-then-b-e c =
-    let e = sym c.form-v.ensures ∙ c.in-Taken.is in
-    let a = c.args in
-    let l = lt-ltb (length a.b.now) (row_place a.x.n) (omega arith) in
-    (rw (e, l), rw (e, l))
-
 pub put_head-requires : goal.put_head-requires
-put_head-requires c = (taken_few _ _ _ _ (sym c.form-v.ensures ∙ c.in-Taken.is), omega arith)
+put_head-requires c =
+    let a = c.args in
+    let v = granted_ok (write_verdict a.x (length a.b.now)) _ _ (sym c.record_length.ensures ∙ c.in-Ok.is) in
+    (taken_rows a.x _ v.0, omega (arith, taken_room a.x _ v.0))
 
 pub put_rows-requires : goal.put_rows-requires
 put_rows-requires c =
     let a = c.args in
+    let v = granted_ok (write_verdict a.x (length a.b.now)) _ _ (sym c.record_length.ensures ∙ c.in-Ok.is) in
     let l = ap length c.put_head.ensures ∙ length-sets a.b.now 0 (head_bytes a.x.n) in
-    (taken_few _ _ _ _ (sym c.form-v.ensures ∙ c.in-Taken.is), omega arith)
+    (taken_rows a.x _ v.0, omega (arith, taken_room a.x _ v.0))
 
-pub returns : goal.returns
-unfolding written_of buffer_of write_verdict
-returns c =
+pub returns-in-Ok : goal.returns-in-Ok
+unfolding written_of buffer_of
+returns-in-Ok c =
     let a = c.args in
-    let e = sym c.form-v.ensures ∙ c.in-Taken.is in
-    let l = le-ltb (length a.b.now) (row_place a.x.n) (omega arith) in
-    (rw (e, l), rw (e, l, c.put_rows.ensures, c.put_head.ensures) (record_put a.x a.b.now (omega arith)))
+    let v = granted_ok (write_verdict a.x (length a.b.now)) _ _ (sym c.record_length.ensures ∙ c.in-Ok.is) in
+    (rw (v.0, v.1), rw (v.0, c.put_rows.ensures, c.put_head.ensures) (record_put a.x a.b.now (taken_room a.x _ v.0)))
+
+pub returns-in-Err : goal.returns-in-Err
+unfolding written_of buffer_of
+returns-in-Err c =
+    let a = c.args in
+    let v = granted_err (write_verdict a.x (length a.b.now)) _ _ (sym c.record_length.ensures ∙ c.in-Err.is) in
+    (rw v, rw v)
