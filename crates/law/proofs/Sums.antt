@@ -6,6 +6,8 @@ use native.Mathlib.Nat.{le-div_iff_mul-le, div-lt_iff_lt-mul, div-add-mod', mod-
 use native.Mathlib.Decide.{dec_le, dec_lt}
 use native.Mathlib.Numerals.{add-one}
 use native.Mathlib.Omega.{arith}
+use Rattle.std.specs.Int.{div_ceil}
+use Rattle.std.proofs.lemmas.Grind.{div_ceil_times}
 use Rattle.law.specs.Sums.{sum, ceil}
 
 -- the two halves of: ceil t T ≤ q exactly where t ≤ q * T
@@ -27,6 +29,14 @@ ceil_mono t u T p h = ceil_le t T (ceil u T) p (omega (arith, le_ceil_mul u T p)
 -- ceil l T, told by the multiples of T around l
 pub ceil_is : (l T q : ℕ) → 1 ≤ T → q * T < l → l ≤ suc q * T → ceil l T ≡ suc q
 ceil_is l T q p r s = omega (arith, ceil_le l T (suc q) p s, lt_ceil l T q p r)
+
+-- and by the library's own quotient rounded up
+div_ceil_by : (t T q : ℕ) → 1 ≤ T → t ≤ q * T → q * T < t + T → q ≡ ceil t T
+div_ceil_by t T zero p a b = omega (arith, ceil_le t T 0 p a)
+div_ceil_by t T (suc r) p a b = omega (arith, ceil_le t T (suc r) p a, lt_ceil t T r p (omega arith))
+
+pub div_ceil_is : (t T : ℕ) → 1 ≤ T → div_ceil t T ≡ ceil t T
+div_ceil_is t T p = let b = div_ceil_times t T p in div_ceil_by t T (div_ceil t T) p b.0 b.1
 
 pub ceil_zero : (T : ℕ) → 1 ≤ T → ceil 0 T ≡ 0
 ceil_zero T p = omega (arith, ceil_le 0 T 0 p (omega arith))

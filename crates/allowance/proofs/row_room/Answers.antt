@@ -1,24 +1,20 @@
-use native.Mathlib.Omega.{arith}
+use Rattle.std.proofs.Common.{arith}
+use Rattle.seq.specs.Places.{at}
 use Rattle.allowance.proofs.Row.{room_nothing, room_most, room_small}
 use Rattle.allowance.proofs.row_room.Goals as goal
 
 pub returns-then-s-eq0 : goal.returns-then-s-eq0
 returns-then-s-eq0 c =
-    let a = c.args in
-    let f = c.requires in
-    let e = c.slack_of-s.ensures in
-    room_nothing a.c.now a.t.now a.i a.d f (omega (arith, e))
+    let x = c.args.x.now in
+    room_nothing x.c x.t c.args.i (at x.d c.args.i) c.requires (omega (arith, c.slack_of-s.ensures))
 
 pub overflow_cast-result : goal.overflow_cast-result
 overflow_cast-result c =
-    let a = c.args in
-    let f = c.requires in
-    let e = c.slack_of-s.ensures in
-    omega (arith, e, room_small a.c.now a.t.now a.i a.d f)
+    let x = c.args.x.now in
+    omega (arith, c.slack_of-s.ensures, room_small x.c x.t c.args.i (at x.d c.args.i) c.requires)
 
 pub returns : goal.returns
 returns c =
-    let a = c.args in
-    let f = c.requires in
+    let x = c.args.x.now in
     let e = c.slack_of-s.ensures in
-    rw e (room_most a.c.now a.t.now a.i a.d f (omega (arith, e)))
+    rw e (room_most x.c x.t c.args.i (at x.d c.args.i) c.requires (omega (arith, e)))

@@ -1,11 +1,7 @@
-use mathlib.Core.Path.{◌≡◌}
-use Prim.Native.Nat.{◌≤◌, ◌-◌}
+use Rattle.std.proofs.Common.{◌≡◌}
 use Rattle.seq.specs.Places.{at}
 use Rattle.law.specs.Slack.{slack}
 use Rattle.allowance.proofs.slack_of.Given as goal
 
-abbrev pub invariant-loop-x : goal.invariant-loop-x
-invariant-loop-x l = (l.x ≤ l.due) × (l.s ≡ slack (at l.c) (at l.t) l.i l.x)
-
-abbrev pub decreases-loop-x : goal.decreases-loop-x
-decreases-loop-x l = l.due - l.x
+abbrev pub invariant-loop-before : goal.invariant-loop-before
+invariant-loop-before l = l.s ≡ slack (at l.x.c) (at l.x.t) l.i l.before

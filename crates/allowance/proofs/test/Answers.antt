@@ -1,33 +1,25 @@
-use mathlib.Core.Path.{sym, ◌∙◌}
-use Rattle.allowance.proofs.Tests.{test_refused, test_lacks, test_passes, taken_well}
-use borrow.Author.Rules.{rules}
+use Rattle.std.proofs.Common.{sym, ◌∙◌}
+use Rattle.table.proofs.Verdicts.{granted_ok, granted_err}
+use Rattle.allowance.specs.Test.{allowances, test_verdict, test_of}
+use Rattle.allowance.proofs.Tests.{taken_well, verdict_form}
 use Rattle.allowance.proofs.test.Goals as goal
 
-pub returns-in_default : goal.returns-in_default
-returns-in_default c =
-    let a = c.args.x in
-    c.refused.ensures ∙ test_refused a _ _ _ c.form-v.ensures c.in_default.is
+pub least-requires : goal.least-requires
+unfolding test_of
+least-requires c =
+    let x = c.args.x in
+    let v = granted_ok (test_verdict x) (allowances x) _ (sym c.allowed.ensures ∙ c.in-Ok.is) in
+    (taken_well x (verdict_form x v.0)).counted
 
-pub fill-i-requires : goal.fill-i-requires
-fill-i-requires c =
-    let a = c.args.x in
-    taken_well a (sym c.form-v.ensures ∙ c.in-Taken.is)
+pub returns-in-Ok : goal.returns-in-Ok
+unfolding test_of
+returns-in-Ok c =
+    let x = c.args.x in
+    let v = granted_ok (test_verdict x) (allowances x) _ (sym c.allowed.ensures ∙ c.in-Ok.is) in
+    rw (v.0, c.least.ensures, v.1)
 
-pub returns-then-i-n : goal.returns-then-i-n
-returns-then-i-n c =
-    let a = c.args.x in
-    let e = sym c.form-v.ensures ∙ c.in-Taken.is in
-    c.refused-then-i-n.ensures ∙ test_lacks a _ e c.fill-i.ensures.0 (search rules)
-
-pub least-k-requires : goal.least-k-requires
-least-k-requires c =
-    let a = c.args.x in
-    let e = sym c.form-v.ensures ∙ c.in-Taken.is in
-    (taken_well a e).counted
-
-pub returns : goal.returns
-returns c =
-    let a = c.args.x in
-    let e = sym c.form-v.ensures ∙ c.in-Taken.is in
-    let f = c.fill-i.ensures in
-    test_passes a _ _ _ e f.0 (search rules) f.1 c.least-k.ensures
+pub returns-in-Err : goal.returns-in-Err
+unfolding test_of
+returns-in-Err c =
+    let x = c.args.x in
+    rw (granted_err (test_verdict x) (allowances x) _ (sym c.allowed.ensures ∙ c.in-Err.is))
