@@ -88,6 +88,7 @@ fn row_rooms(x: &Table) -> Result<[u16; 16], Refusal>
 }
 
 // The smallest of the first n.
+#[tactic(auto, using(crate::proofs::Smallest::smallest_next), unfolding(crate::specs::Test::smallest))]
 fn least(each: &[u16; 16], n: usize) -> u16
     requires { (1 ≤ n) × (n ≤ 16) }
     ensures { result ≡ smallest (at each.now) (n - 1) }
