@@ -27,7 +27,7 @@ pub enum Use {
 }
 
 // The head request if no counter is 0, else the first row with work left, else the head in the background.
-#[tactic(auto, using(crate::proofs::Chosen::chosen_give, crate::proofs::Chosen::chosen_hard, crate::proofs::Chosen::chosen_back, crate::proofs::Chosen::chosen_idle))]
+#[tactic(auto, unfolding(crate::specs::Uses::chosen))]
 pub fn choose<'a>(left: &'a [u16; 16], counter: &'a [u16; 16], count: usize, n: usize) -> Choice
     ensures { result ≡ chosen n count left.now counter.now }
 {
