@@ -23,7 +23,8 @@ fn row_sound(used: bool, c: u16, t: u16, d: u16) -> bool
     (pick(used, 1, 0) <= c) & (c <= d) & (d <= t) & (t <= pick(used, 4096, 0))
 }
 
-// All places take the same test in one walk, with no early way out; i is compared in 16 bits, as wide as what is compared beside it.
+// All places take the same test in one walk, with no early way out; j is i in 16 bits, as wide as what is compared beside
+// it: a cast of i would be compared in 32.
 fn all_kept<'a>(
     n: usize,
     c: &'a [u16; 16],
@@ -37,9 +38,11 @@ fn all_kept<'a>(
 {
     let m = n.min(16) as u16;
     let mut ok = true;
+    let mut j: u16 = 0;
     for i in 0..16 {
-        ok &= row_sound((i as u16) < m, c[i], t[i], d[i])
+        ok &= row_sound(j < m, c[i], t[i], d[i])
             & row_bounds(c[i], d[i], k[i], left[i], counter[i]);
+        j += 1;
     }
     ok
 }

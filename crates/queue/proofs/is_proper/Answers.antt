@@ -12,16 +12,16 @@ returns-then-count-gt32 c = rw (lt-leb c.args.count 32 c.if-count-gt32.true)
 
 pub loop-i-init : goal.loop-i-init
 unfolding every
-loop-i-init c = (omega arith, refl, refl)
+loop-i-init c = (omega arith, refl, refl, refl)
 
 pub loop-i-preserved : goal.loop-i-preserved
 loop-i-preserved c =
     let l = c.loop-i in
-    (omega arith, l.invariant.1, rw (c.place_proper-ok.ensures, l.invariant.1, every_more l.i, ← l.invariant.2))
+    (omega arith, omega arith, l.invariant.2, rw (c.place_proper-ok.ensures, l.invariant.1, l.invariant.2, every_more l.i, ← l.invariant.3))
 
 pub returns : goal.returns
 unfolding proper
 returns c =
     let l = c.loop-i in
     let e : l.i ≡ 32 = omega arith in
-    rw (le-leb c.args.count 32 c.if-count-gt32.false) (rw e at l.invariant.2)
+    rw (le-leb c.args.count 32 c.if-count-gt32.false) (rw e at l.invariant.3)
