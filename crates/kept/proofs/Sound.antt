@@ -20,29 +20,6 @@ same_test true b f g = sym (f refl)
 same_test false true f g = g refl
 same_test false false f g = refl
 
--- A row's bounds, which past the rows leave only zeros
-pub sound_alike : (used : Bool) (c t d : ℕ) → leb (cond used 1 0) c && leb c d && leb d t && leb t (cond used 4096 0) ≡ cond used (in_order c t d) (all_zero c t d)
-sound_alike true c t d = refl
-sound_alike false c t d = same_test _ _ there back
-  where
-    there : leb 0 c && leb c d && leb d t && leb t 0 ≡ true → all_zero c t d ≡ true
-    there e =
-        let a = both_true (leb 0 c && leb c d && leb d t) (leb t 0) e in
-        let b = both_true (leb 0 c && leb c d) (leb d t) a.0 in
-        let z : t ≤ 0 = leb-true t 0 a.1 in
-        let y : d ≤ t = leb-true d t b.1 in
-        let x : c ≤ d = leb-true c d (both_true (leb 0 c) (leb c d) b.0).1 in
-        rw (eq-eqb c 0 (omega arith), eq-eqb t 0 (omega arith), eq-eqb d 0 (omega arith))
-
-    back : all_zero c t d ≡ true → leb 0 c && leb c d && leb d t && leb t 0 ≡ true
-    back e =
-        let a = both_true (eqb c 0 && eqb t 0) (eqb d 0) e in
-        let b = both_true (eqb c 0) (eqb t 0) a.0 in
-        let x : c ≡ 0 = eqb-true _ _ b.0 in
-        let z : t ≡ 0 = eqb-true _ _ b.1 in
-        let y : d ≡ 0 = eqb-true _ _ a.1 in
-        rw (le-leb 0 c (omega arith), le-leb c d (omega arith), le-leb d t (omega arith), le-leb t 0 (omega arith))
-
 -- A table: refusals 4, 5 and 6 as three tests
 nonzero : (m : ℕ) → eqb m 0 ≡ false → 1 ≤ m
 nonzero zero e = absurd (true_false refl e)

@@ -7,38 +7,24 @@ ghost use Rattle.seq.specs.Places.{at, every};
 ghost use Rattle.table.specs.Form.{in_order, all_zero, rising};
 ghost use Rattle.kept.specs.Kept.{table_legal, kept, rows_kept, lates_kept};
 
-use seq::{both, lesser};
-
-fn room(c: u16, d: u16) -> u16
-    ensures { result ≡ d - c }
-{
-    if c < d { d - c } else { 0 }
-}
+use seq::pick;
 
 // Allowance, counter and work left. In a row of zeros they leave only zeros.
 fn row_bounds(c: u16, d: u16, k: u16, left: u16, counter: u16) -> bool
     ensures { result ≡ (leb k (d - c) && leb counter k && leb left c) }
 {
-    both(both(k <= room(c, d), counter <= k), left <= c)
-}
-
-fn bound(used: bool, x: u16) -> u16
-    ensures { result ≡ cond used x 0 }
-{
-    if used { x } else { 0 }
+    (k <= d.saturating_sub(c)) & (counter <= k) & (left <= c)
 }
 
 // Past the rows the same bounds leave only zeros.
 fn row_sound(used: bool, c: u16, t: u16, d: u16) -> bool
     ensures { result ≡ cond used (in_order c t d) (all_zero c t d) }
 {
-    both(
-        both(both(bound(used, 1) <= c, c <= d), d <= t),
-        t <= bound(used, 4096),
-    )
+    (pick(used, 1, 0) <= c) & (c <= d) & (d <= t) & (t <= pick(used, 4096, 0))
 }
 
-// All places take the same test in one walk, with no early way out; j is i in 16 bits, as wide as what is compared beside it.
+// All places take the same test in one walk, with no early way out; j is i in 16 bits, as wide as what is compared beside
+// it: a cast of i would be compared in 32.
 fn all_kept<'a>(
     n: usize,
     c: &'a [u16; 16],
@@ -50,16 +36,13 @@ fn all_kept<'a>(
 ) -> bool
     ensures { result ≡ every 16 (kept n c.now t.now d.now k.now left.now counter.now) }
 {
-    let m = lesser(n, 16) as u16;
+    let m = n.min(16) as u16;
     let mut ok = true;
     let mut j: u16 = 0;
-    let mut i = 0;
-    while i < 16 {
-        let a = row_sound(j < m, c[i], t[i], d[i]);
-        let b = row_bounds(c[i], d[i], k[i], left[i], counter[i]);
-        ok = both(ok, both(a, b));
+    for i in 0..16 {
+        ok &= row_sound(j < m, c[i], t[i], d[i])
+            & row_bounds(c[i], d[i], k[i], left[i], counter[i]);
         j += 1;
-        i += 1;
     }
     ok
 }
@@ -68,13 +51,9 @@ fn all_kept<'a>(
 fn periods_rise(n: usize, t: &[u16; 16]) -> bool
     ensures { result ≡ every (min n 16) (rising t.now) }
 {
-    let m = lesser(n, 16);
     let mut ok = true;
-    let mut i = lesser(m, 1);
-    while i < m {
-        let b = i - 1;
-        ok = both(ok, t[b] <= t[i]);
-        i += 1;
+    for i in 1..n.min(16) {
+        ok &= t[i - 1] <= t[i];
     }
     ok
 }
@@ -92,23 +71,18 @@ pub fn rows_legal<'a>(
     ensures { result ≡ (table_legal n c.now t.now d.now
         && rows_kept n c.now d.now k.now left.now counter.now) }
 {
-    let f = both(1 <= n, n <= 16);
-    let a = all_kept(n, c, t, d, k, left, counter);
-    let b = periods_rise(n, t);
-    both(both(f, a), b)
+    let kept = all_kept(n, c, t, d, k, left, counter);
+    (1 <= n) & (n <= 16) & kept & periods_rise(n, t)
 }
 
 // Compared only where there are rows; the rest need only be zero, which is the quicker test of numbers this wide.
 fn lates_low(n: usize, ran: u64, late: &[u64; 16]) -> bool
     ensures { result ≡ every (min n 16) (λ i. leb (at late.now i) ran) }
 {
-    let m = lesser(n, 16);
-    let mut i = 0;
-    while i < m {
-        if ran < late[i] {
+    for x in &late[..n.min(16)] {
+        if ran < *x {
             return false;
         }
-        i += 1;
     }
     true
 }
@@ -117,10 +91,8 @@ fn lates_zero(n: usize, late: &[u64; 16]) -> bool
     ensures { result ≡ every 16 (λ i. ltb i n || eqb (at late.now i) 0) }
 {
     let mut rest: u64 = 0;
-    let mut i = lesser(n, 16);
-    while i < 16 {
-        rest = rest | late[i];
-        i += 1;
+    for i in n.min(16)..16 {
+        rest |= late[i];
     }
     rest == 0
 }
@@ -128,7 +100,5 @@ fn lates_zero(n: usize, late: &[u64; 16]) -> bool
 pub fn lates_kept(n: usize, ran: u64, late: &[u64; 16]) -> bool
     ensures { result ≡ lates_kept n ran late.now }
 {
-    let a = lates_low(n, ran, late);
-    let b = lates_zero(n, late);
-    both(a, b)
+    lates_low(n, ran, late) & lates_zero(n, late)
 }

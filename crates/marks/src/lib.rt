@@ -7,19 +7,13 @@ ghost use Rattle.std.specs.Int.Count.{ones};
 ghost use Rattle.seq.specs.Places.{flag};
 ghost use Rattle.marks.specs.Words.{due_word, end_word, late_word};
 
-use seq::{both, has, less, lesser, top};
-
-fn wide(x: u16) -> u64
-    ensures { result ≡ x }
-{
-    x as u64
-}
+use seq::{has, top};
 
 // The remainder, and m where p is 0.
 fn remainder(m: u64, p: u64) -> u64
     ensures { result ≡ m % p }
 {
-    if p == 0 { m } else { m % p }
+    m.checked_rem(p).unwrap_or(m)
 }
 
 // The word with bit i as told, where it has no bit from i on.
@@ -51,11 +45,9 @@ pub fn mark<'a>(t: &'a [u16; 16], d: &'a [u16; 16], n: usize, m: u64) -> Marks
 {
     let mut due: u16 = 0;
     let mut end: u16 = 0;
-    let mut i = lesser(n, 16);
-    while 0 < i {
-        i -= 1;
-        let r = remainder(m, wide(t[i]));
-        let last = wide(less(d[i]));
+    for i in (0..n.min(16)).rev() {
+        let r = remainder(m, u64::from(t[i]));
+        let last = u64::from(d[i].saturating_sub(1));
         due = pushed(due, r == 0);
         end = pushed(end, r == last);
     }
@@ -67,11 +59,8 @@ pub fn late_word(left: &[u16; 16], end: u16) -> u16
 {
     let m = top(end);
     let mut w: u16 = 0;
-    let mut i = 0;
-    while i < m {
-        let on = both(has(end, i), 0 < left[i]);
-        w = with_bit(w, i, on);
-        i += 1;
+    for i in 0..m {
+        w = with_bit(w, i, has(end, i) & (0 < left[i]));
     }
     w
 }
@@ -79,5 +68,5 @@ pub fn late_word(left: &[u16; 16], end: u16) -> u16
 pub fn late_rows(w: u16) -> u32
     ensures { result ≡ ones w }
 {
-    u16::count_ones(w)
+    w.count_ones()
 }

@@ -10,20 +10,6 @@ use_number (Given name) = 2
 use_number Empty = 0
 use_number Lost = 3
 
--- the row's number from 1 on; 0 for none
-abbrev pub use_row : Use → ℕ
-use_row (Hard row) = row
-use_row (Given name) = 0
-use_row Empty = 0
-use_row Lost = 0
-
--- the request's name; 0 for none
-abbrev pub use_name : Use → ℕ
-use_name (Hard row) = 0
-use_name (Given name) = name
-use_name Empty = 0
-use_name Lost = 0
-
 -- the row's number from 1 on, or the request's name; 0 for neither
 abbrev pub use_who : Use → ℕ
 use_who (Hard row) = row

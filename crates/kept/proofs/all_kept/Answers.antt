@@ -1,4 +1,4 @@
-use mathlib.Core.Path.{◌≡◌, refl}
+use mathlib.Core.Path.{refl}
 use native.Mathlib.Omega.{arith}
 use lib.Dec.{ltb}
 use Rattle.seq.specs.Places.{at, every}
@@ -10,7 +10,7 @@ use Rattle.kept.proofs.all_kept.Goals as goal
 
 pub loop-i-init : goal.loop-i-init
 unfolding every
-loop-i-init c = (omega arith, refl, c.lesser-m.ensures, refl)
+loop-i-init c = (omega arith, refl, c.min-m.ensures, refl)
 
 pub loop-i-preserved : goal.loop-i-preserved
 unfolding sound
@@ -19,10 +19,4 @@ loop-i-preserved c =
     let a = c.args in
     let e = below_rows l.i a.n (omega arith) in
     let f = kept_alike (ltb l.i a.n) (at a.c.now l.i) (at a.t.now l.i) (at a.d.now l.i) (at a.k.now l.i) (at a.left.now l.i) (at a.counter.now l.i) in
-    (omega arith, omega arith, l.invariant.2, rw (c.both-ok.ensures, c.both.ensures, c.row_bounds-b.ensures, c.row_sound-a.ensures, l.invariant.1, l.invariant.2, e, f, every_more l.i, ← l.invariant.3))
-
-pub returns : goal.returns
-returns c =
-    let l = c.loop-i in
-    let e : l.i ≡ 16 = omega arith in
-    rw e at l.invariant.3
+    (omega arith, omega arith, l.invariant.2, rw (c.row_bounds.ensures, c.row_sound.ensures, l.invariant.1, l.invariant.2, e, f, every_more l.i, ← l.invariant.3))

@@ -4,4 +4,4 @@ use Rattle.kept.proofs.lates_kept.Goals as goal
 pub returns : goal.returns
 returns c =
     let a = c.args in
-    rw (c.both.ensures, c.lates_zero-b.ensures, c.lates_low-a.ensures) (lates_test a.n a.ran a.late.now)
+    rw (c.lates_zero.ensures, c.lates_low.ensures) (lates_test a.n a.ran a.late.now)

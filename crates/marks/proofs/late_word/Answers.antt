@@ -22,7 +22,7 @@ with_bit-w-requires c =
 pub loop-i-preserved : goal.loop-i-preserved
 loop-i-preserved c =
     let l = c.loop-i in
-    (omega arith, l.invariant.1, rw (c.with_bit-w.ensures, c.both-on.ensures, c.has.ensures, tab_word_more l.i, ← l.invariant.2))
+    (omega arith, l.invariant.1, rw (c.with_bit-w.ensures, c.has.ensures, tab_word_more l.i, ← l.invariant.2))
 
 pub returns : goal.returns
 unfolding late_word

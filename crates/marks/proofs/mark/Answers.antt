@@ -8,8 +8,7 @@ use Rattle.marks.proofs.mark.Goals as goal
 
 pub loop-i-init : goal.loop-i-init
 loop-i-init c =
-    let e = c.lesser-i.ensures in
-    let h : rows_of c.args.n ≤ c.lesser-i.result = omega arith in
+    let h : rows_of c.args.n ≤ c.min-i.result = omega arith in
     (omega arith, rw (rest_none _ _ _ h), rw (rest_none _ _ _ h))
 
 pub pushed-due-requires : goal.pushed-due-requires
@@ -28,8 +27,8 @@ loop-i-preserved c =
     let h : l.i - 1 < rows_of c.args.n = omega arith in
     let e : suc (l.i - 1) ≡ l.i = omega arith in (
       omega arith,
-      rw (rest_more _ _ (l.i - 1) h, e, ← l.invariant.1, c.pushed-due.ensures, c.remainder-r.ensures, c.wide.ensures),
-      rw (rest_more _ _ (l.i - 1) h, e, ← l.invariant.2, c.pushed-end.ensures, c.remainder-r.ensures, c.wide.ensures, c.wide-last.ensures, c.less.ensures),
+      rw (rest_more _ _ (l.i - 1) h, e, ← l.invariant.1, c.pushed-due.ensures, c.remainder-r.ensures, c.from.ensures),
+      rw (rest_more _ _ (l.i - 1) h, e, ← l.invariant.2, c.pushed-end.ensures, c.remainder-r.ensures, c.from.ensures, c.from-last.ensures, c.saturating_sub.ensures),
     )
 
 pub returns : goal.returns

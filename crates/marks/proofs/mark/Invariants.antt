@@ -16,6 +16,3 @@ end_from m n t d i = rest (rows_of n) (λ j. ends m (at t j) (at d j)) i
 
 abbrev pub invariant-loop-i : goal.invariant-loop-i
 invariant-loop-i l = (l.i ≤ rows_of l.n) × (l.due ≡ due_from l.m l.n l.t l.i) × (l.end ≡ end_from l.m l.n l.t l.d l.i)
-
-abbrev pub decreases-loop-i : goal.decreases-loop-i
-decreases-loop-i l = l.i

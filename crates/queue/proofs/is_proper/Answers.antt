@@ -16,12 +16,8 @@ loop-i-init c = (omega arith, refl, refl, refl)
 
 pub loop-i-preserved : goal.loop-i-preserved
 loop-i-preserved c =
-    let l = c.loop-i in (
-      omega arith,
-      omega arith,
-      l.invariant.2,
-      rw (c.both-ok.ensures, c.place_proper.ensures, l.invariant.1, l.invariant.2, every_more l.i, ← l.invariant.3),
-    )
+    let l = c.loop-i in
+    (omega arith, omega arith, l.invariant.2, rw (c.place_proper-ok.ensures, l.invariant.1, l.invariant.2, every_more l.i, ← l.invariant.3))
 
 pub returns : goal.returns
 unfolding proper

@@ -10,7 +10,7 @@ pub returns-then-on : goal.returns-then-on
 unfolding lowered over
 returns-then-on c =
     let a = c.args.sizes.now in
-    rw c.if-on.true (over_more 0 0 (λ i x. x - 1) a a _ refl c.less.ensures)
+    rw c.if-on.true (over_more 0 0 (λ i x. x - 1) a a _ refl c.saturating_sub.ensures)
 
 pub returns-else-on : goal.returns-else-on
 unfolding lowered
