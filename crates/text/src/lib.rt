@@ -6,8 +6,6 @@ ghost use Rattle.std.specs.Prelude.{◌≡◌, [], ◌+◌, ◌-◌, ◌≤◌, 
 ghost use Rattle.std.proofs.lemmas.List.Edits.{sets};
 ghost use Rattle.text.specs.Text.{decimal, line_of, extended, said, with_text, behind};
 
-use seq::lesser;
-
 #[derive(Clone, Copy)]
 pub struct Line {
     pub bytes: [u8; 128],
@@ -21,22 +19,15 @@ struct Spelled {
     from: usize,
 }
 
-fn room(size: usize, p: usize) -> usize
-    ensures { result ≡ size - p }
-{
-    if p < size { size - p } else { 0 }
-}
-
 // A text in a buffer, from place p on; what does not fit is left out. Gives the place behind.
-pub fn copy<'a>(out: &'a mut [u8], p: usize, t: &'a [u8]) -> usize
+pub fn copy(out: &mut [u8], p: usize, t: &[u8]) -> usize
     ensures { (result ≡ p + min (length t.now) (length out.old - p)) × (out.new ≡ sets out.old p t.now) }
 {
-    let n = lesser(t.len(), room(out.len(), p));
-    let mut i = 0;
-    while i < n {
-        out[p + i] = t[i];
-        i += 1;
+    if out.len() <= p {
+        return p;
     }
+    let n = t.len().min(out.len() - p);
+    out[p..p + n].copy_from_slice(&t[..n]);
     p + n
 }
 
@@ -53,13 +44,9 @@ pub fn blank() -> Line
 pub fn put(line: Line, t: &[u8]) -> Line
     ensures { result ≡ extended line t.now }
 {
-    let mut b = line.bytes;
-    let p = line.length;
-    let n = copy(&mut b, p, t);
-    Line {
-        bytes: b,
-        length: n,
-    }
+    let mut bytes = line.bytes;
+    let length = copy(&mut bytes, line.length, t);
+    Line { bytes, length }
 }
 
 fn spell(x: u64) -> Spelled
@@ -82,28 +69,14 @@ pub fn put_number(line: Line, x: u64) -> Line
     ensures { result ≡ extended line (decimal x) }
 {
     let d = spell(x);
-    let b = d.bytes;
-    let from = d.from;
-    put(line, &b[from..])
-}
-
-fn fits(size: usize, p: usize, n: usize) -> bool
-    ensures { result ≡ leb (p + n) size }
-{
-    if size < p {
-        return false;
-    }
-    n <= size - p
+    put(line, &d.bytes[d.from..])
 }
 
 // A line in a buffer, from place p on, if all of it fits. Gives the place behind it.
 pub fn append(out: &mut [u8], p: usize, line: Line) -> usize
     ensures { (result ≡ behind out.old p (said line)) × (out.new ≡ with_text out.old p (said line)) }
 {
-    let b = line.bytes;
-    let n = lesser(line.length, 128);
-    if !fits(out.len(), p, n) {
-        return p;
-    }
-    copy(out, p, &b[..n])
+    let said = &line.bytes[..line.length.min(128)];
+    let room = out.len().saturating_sub(p);
+    if room < said.len() { p } else { copy(out, p, said) }
 }

@@ -9,4 +9,4 @@ unfolding extended
 returns c =
     let a = c.args in
     let e : length a.line.bytes ≡ 128 = search rules in
-    rw (c.copy-n.ensures.0, c.copy-n.ensures.1, e)
+    rw (c.copy-length.ensures.0, c.copy-length.ensures.1, e)
