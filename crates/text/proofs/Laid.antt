@@ -3,7 +3,7 @@ use mathlib.Core.Path.{◌≡◌, refl, ◌∙◌}
 use mathlib.Core.List.{List, [], ◌∷◌, ◌++◌, append_assoc}
 use Prim.Native.Nat.{ℕ, ◌+◌, ◌-◌, ◌≤◌, ◌<◌, min}
 use native.Mathlib.Omega.{arith}
-use lib.ListN.{length, replicate, take, drop, length-append, length-take}
+use lib.ListN.{length, replicate, take, drop, length-append}
 use lib.Seq.{sets, sets-eq, take_at, length-take-le}
 use borrow.Author.Tests.{le-leb, lt-leb}
 use lib.Dec.{leb}
@@ -39,10 +39,6 @@ unfolding line_of extended
 line_said l h =
     let e : 0 + min (length l) (128 - 0) ≡ length l = omega arith in
     rw (e, sets-eq l (replicate 128 0) 0 (omega arith)) (take_at l _ (length l) refl)
-
--- how long it is, in any line
-pub said_length : (line : Line) → length line.bytes ≡ 128 → length (said line) ≡ min line.length 128
-said_length line h = rw (length-take line.length line.bytes, h)
 
 -- A text in a buffer, of which as much is stored as there is room for
 pub part_set : (t out now : List ℕ) (p n k : ℕ) → n ≡ min (length t) (length out - p) → p < length out → k ≡ n → now ≡ take n t → put_mid p k out now ≡ sets out p t
