@@ -18,12 +18,4 @@ unfolding use_text
 returns-in-Given c =
     let a = c.args in
     let e : length a.line.bytes ≡ 128 = search rules in
-    rw c.in-Given.is (piece_more a.line (text "N") (decimal c.in-Given.name) e c.put-in-Given.ensures c.put_number-in-Given.ensures)
-
-pub returns-in-Empty : goal.returns-in-Empty
-unfolding use_text
-returns-in-Empty c = rw c.in-Empty.is c.put-in-Empty.ensures
-
-pub returns-in-Lost : goal.returns-in-Lost
-unfolding use_text
-returns-in-Lost c = rw c.in-Lost.is c.put-in-Lost.ensures
+    rw (c.in-Given.is, ← c.from.ensures) (piece_more a.line (text "N") (decimal c.from.result) e c.put-in-Given.ensures c.put_number-in-Given.ensures)
