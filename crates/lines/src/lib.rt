@@ -9,13 +9,14 @@ ghost use Rattle.lines.specs.Lines.{spaced, use_text, slot_line, refused_line, b
 use text::{Line, blank, put, put_number};
 use uses::Use;
 
+#[tactic(auto, using(text::proofs::Laid::extended_twice))]
 fn put_spaced(line: Line, x: u64) -> Line
     ensures { result ≡ extended line (spaced x) }
 {
     put_number(put(line, b" "), x)
 }
 
-#[tactic(auto, unfolding(crate::specs::Lines::use_text))]
+#[tactic(auto, using(text::proofs::Laid::extended_twice), unfolding(crate::specs::Lines::use_text))]
 fn put_use(line: Line, used: Use) -> Line
     ensures { result ≡ extended line (use_text used) }
 {
@@ -27,6 +28,7 @@ fn put_use(line: Line, used: Use) -> Line
     }
 }
 
+#[tactic(auto, using(text::proofs::Laid::line_put))]
 pub fn slot_line(slot: u64, used: Use, word: u16) -> Line
     ensures { result ≡ line_of (slot_line slot used word) }
 {
@@ -36,6 +38,7 @@ pub fn slot_line(slot: u64, used: Use, word: u16) -> Line
     put(put_spaced(line, u64::from(word)), b"\n")
 }
 
+#[tactic(auto, using(text::proofs::Laid::line_put))]
 pub fn refused_line(number: u8, row: usize) -> Line
     ensures { result ≡ line_of (refused_line number row) }
 {
@@ -44,6 +47,7 @@ pub fn refused_line(number: u8, row: usize) -> Line
     put(put_spaced(line, row as u64), b"\n")
 }
 
+#[tactic(auto, using(text::proofs::Laid::line_put))]
 pub fn bad_line(offset: usize) -> Line
     ensures { result ≡ line_of (bad_line offset) }
 {
@@ -51,6 +55,7 @@ pub fn bad_line(offset: usize) -> Line
     put(put_spaced(line, offset as u64), b"\n")
 }
 
+#[tactic(auto, using(text::proofs::Laid::line_put, crate::proofs::Counted::counted_more))]
 pub fn total_line(hard: u64, given: u64, empty: u64, lost: u64, late: u64) -> Line
     ensures { result ≡ line_of (total_line hard given empty lost late) }
 {
@@ -61,6 +66,7 @@ pub fn total_line(hard: u64, given: u64, empty: u64, lost: u64, late: u64) -> Li
     put(line, b"\n")
 }
 
+#[tactic(auto, using(text::proofs::Laid::line_put))]
 pub fn long_line() -> Line
     ensures { result ≡ line_of long_line }
 {

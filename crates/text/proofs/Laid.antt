@@ -1,5 +1,5 @@
 -- Laws of lines in their layout.
-use mathlib.Core.Path.{◌≡◌, refl, ◌∙◌}
+use mathlib.Core.Path.{◌≡◌, refl}
 use mathlib.Core.List.{List, [], ◌∷◌, ◌++◌, append_assoc}
 use Prim.Native.Nat.{ℕ, ◌+◌, ◌-◌, ◌≤◌, ◌<◌, min}
 use native.Mathlib.Omega.{arith}
@@ -18,20 +18,17 @@ use Rattle.text.specs.declared.Line.{Line}
 places : (n a b : ℕ) → n + min a (128 - n) + min b (128 - (n + min a (128 - n))) ≡ n + min (a + b) (128 - n)
 places n a b = omega arith
 
-extended_twice : (line : Line) (s t : List ℕ) → length line.bytes ≡ 128 → extended (extended line s) t ≡ extended line (s ++ t)
+pub extended_twice : (line : Line) (s t : List ℕ) → length line.bytes ≡ 128 → extended (extended line s) t ≡ extended line (s ++ t)
 unfolding extended
 extended_twice line s t h =
     let n = line.length in
     let f : n + min (length s) (128 - n) ≡ n + min (length s) (length line.bytes - n) = rw h in
     rw (sets_cut s line.bytes t n _ f, length-append s t, places n (length s) (length t))
 
-pub piece_more : (line : Line) (s t : List ℕ) {a r : Line} → length line.bytes ≡ 128 → a ≡ extended line s → r ≡ extended a t → r ≡ extended line (s ++ t)
-piece_more line s t {a} h e f = (rw e at f) ∙ extended_twice line s t h
-
 -- a line is made piece by piece
-pub line_more : (l t : List ℕ) {a r : Line} → a ≡ line_of l → r ≡ extended a t → r ≡ line_of (l ++ t)
+pub line_put : (l t : List ℕ) → extended (line_of l) t ≡ line_of (l ++ t)
 unfolding line_of
-line_more l t e f = piece_more empty_line l t refl e f
+line_put l t = extended_twice empty_line l t refl
 
 -- What a line says, where it fits
 pub line_said : (l : List ℕ) → length l ≤ 128 → said (line_of l) ≡ l
