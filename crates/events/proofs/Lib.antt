@@ -1,4 +1,3 @@
-pub mod Told
 pub mod Run
 pub mod Vectors
 pub mod Outcomes

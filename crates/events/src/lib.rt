@@ -6,7 +6,7 @@ ghost use Rattle.std.specs.Prelude.{◌≡◌};
 ghost use Rattle.events.specs.Events.{record_length, record_of, events_of, event_at, width_of};
 
 // Request has the name and the size.
-#[derive(Clone, Copy)]
+#[derive(Clone, Copy, Debug, PartialEq, Eq)]
 pub enum Event {
     End,
     Slot,
@@ -19,49 +19,42 @@ pub enum Event {
 pub fn record_length(s: &[u8]) -> usize
     ensures { result ≡ record_length s.now }
 {
-    if s.len() < 3 {
-        return s.len();
+    match s {
+        [_, high, low, ..] => {
+            let length = u16::from_be_bytes([*high, *low]);
+            s.len().min(3 + usize::from(length))
+        }
+        _ => s.len(),
     }
-    let n = 3 + seq::big(&s[1..]) as usize;
-    if n < s.len() { n } else { s.len() }
 }
 
-pub fn record<'a>(s: &'a [u8]) -> &'a [u8]
+pub fn record(s: &[u8]) -> &[u8]
     ensures { result.now ≡ record_of s.now }
 {
-    let n = record_length(s);
-    &s[..n]
+    &s[..record_length(s)]
 }
 
-pub fn events<'a>(s: &'a [u8]) -> &'a [u8]
+pub fn events(s: &[u8]) -> &[u8]
     ensures { result.now ≡ events_of s.now }
 {
-    let n = record_length(s);
-    &s[n..]
+    &s[record_length(s)..]
 }
 
+#[tactic(auto, unfolding(crate::specs::Events::event_at))]
 pub fn event_at(s: &[u8], p: usize) -> Event
     ensures { result ≡ event_at s.now p }
 {
-    if s.len() <= p {
-        return Event::End;
+    match s.get(p..).unwrap_or(&[]) {
+        [] => Event::End,
+        [0, ..] => Event::Slot,
+        [1, ..] => Event::Lost,
+        [2, a, b, c, d, ..] => {
+            let name = u16::from_be_bytes([*a, *b]);
+            let size = u16::from_be_bytes([*c, *d]);
+            Event::Request(name, size)
+        }
+        _ => Event::Bad,
     }
-    let b = s[p];
-    if b == 0 {
-        return Event::Slot;
-    }
-    if b == 1 {
-        return Event::Lost;
-    }
-    if b != 2 {
-        return Event::Bad;
-    }
-    if s.len() - p < 5 {
-        return Event::Bad;
-    }
-    let name = p + 1;
-    let size = p + 3;
-    Event::Request(seq::big(&s[name..]), seq::big(&s[size..]))
 }
 
 // What the next event's place is further on.
@@ -69,10 +62,8 @@ pub fn width(e: Event) -> usize
     ensures { result ≡ width_of e }
 {
     match e {
-        Event::End => 0,
-        Event::Slot => 1,
-        Event::Lost => 1,
+        Event::Slot | Event::Lost => 1,
         Event::Request(_, _) => 5,
-        Event::Bad => 0,
+        Event::End | Event::Bad => 0,
     }
 }

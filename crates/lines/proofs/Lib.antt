@@ -1,3 +1,4 @@
 pub mod Fit
+pub mod Counted
 pub mod Vectors
 pub mod Outcomes

@@ -1,15 +1,15 @@
 -- Laws of numbers in decimal.
-use mathlib.Core.Path.{◌≡◌, refl, sym}
+use mathlib.Core.Path.{◌≡◌, refl, ap, ◌∙◌}
 use mathlib.Core.Bool.{Bool, true, false}
 use mathlib.Core.List.{List, [], ◌∷◌, ◌++◌}
 use Prim.Native.Nat.{ℕ, zero, suc, ◌+◌, ◌-◌, ◌*◌, ◌/◌, ◌%◌, ◌^◌, ◌≤◌, ◌<◌}
 use native.Mathlib.Omega.{arith}
-use native.Mathlib.Nat.{pow-suc}
 use borrow.Author.Tests.{ltb-true, ltb-false}
 use lib.Dec.{ltb}
-use lib.ListN.{length, drop, set, length-append, length-set}
-use lib.Seq.{drop-cons, get_or-set_same, drop-set-lt, append_snoc}
+use lib.ListN.{length}
 use Rattle.seq.specs.Places.{at}
+use Rattle.std.specs.Fmt.{decimal as printed}
+use Rattle.std.proofs.lemmas.Fmt.{decimal_digit, decimal_step, length-decimal-le}
 use Rattle.text.specs.Text.{digit, digits_then, decimal}
 
 -- enough steps are enough
@@ -101,31 +101,11 @@ pub decimal_digits : (x i : ℕ) → i < length (decimal x) → Digit (at (decim
 decimal_digits =
     by_digits (λ x l. (i : ℕ) → i < length l → Digit (at l i)) (λ x h. one_more [] (digit x) (omega arith) (λ i k. absurd (omega arith))) (λ x l h f. one_more l (digit (x % 10)) (omega arith) f)
 
--- How many digits
-pub decimal_least : (x : ℕ) → 1 ≤ length (decimal x)
-decimal_least =
-    by_digits (λ x l. 1 ≤ length l) (λ x h. omega arith) (λ x l h f. rw (length-append l (digit (x % 10) ∷ [])) (omega arith))
+-- What std prints of a number is its digits
+pub decimal_std : (x : ℕ) → x < 2 ^ 64 → printed x ≡ decimal x
+decimal_std =
+    by_digits (λ x l. x < 2 ^ 64 → printed x ≡ l) (λ x h g. decimal_digit x h) (λ x l h f g. decimal_step x (omega arith) g ∙ ap (λ (m : List ℕ). m ++ digit (x % 10) ∷ []) (f (omega arith)))
 
-pub decimal_longer : (x : ℕ) → 9 < x → length (decimal x) ≡ length (decimal (x / 10)) + 1
-decimal_longer x h = rw (decimal_more x h) (length-append (decimal (x / 10)) (digit (x % 10) ∷ []))
-
-fewer : (x n : ℕ) (l : List ℕ) → 9 < x → ((m : ℕ) → x / 10 < 10 ^ suc m → length l ≤ suc m) → x < 10 ^ suc n → length (l ++ digit (x % 10) ∷ []) ≤ suc n
-fewer x zero l h f g = absurd (omega arith)
-fewer x (suc n) l h f g =
-    let e : x < 10 ^ suc n * 10 = rw (pow-suc 10 (suc n)) at g in
-    rw (length-append l (digit (x % 10) ∷ [])) (omega (arith, f n (omega arith)))
-
-pub decimal_most : (x n : ℕ) → x < 10 ^ suc n → length (decimal x) ≤ suc n
-decimal_most =
-    by_digits (λ x l. (n : ℕ) → x < 10 ^ suc n → length l ≤ suc n) (λ x h n g. omega arith) (λ x l h f n. fewer x n l h f)
-
+-- so there are twenty at most
 pub decimal_twenty : (x : ℕ) → x < 2 ^ 64 → length (decimal x) ≤ 20
-decimal_twenty x h = decimal_most x 19 (omega arith)
-
--- One more digit, in the place before those that are found
-pub digit_before : (l b : List ℕ) (i d : ℕ) → 1 ≤ i → i ≤ length b → l ++ drop (i - 1) (set b (i - 1) d) ≡ l ++ (d ∷ []) ++ drop i b
-digit_before l b zero d h g = absurd (omega arith)
-digit_before l b (suc i) d h g =
-    let k : i < length (set b i d) = rw (length-set b i d) (omega arith) in
-    let e : suc i - 1 ≡ i = omega arith in
-    rw (e, drop-cons (set b i d) i 0 k, get_or-set_same b i d 0 (omega arith), drop-set-lt (suc i) b i d (omega arith)) (sym (append_snoc l d (drop (suc i) b)))
+decimal_twenty x h = rw (← decimal_std x h) (length-decimal-le 20 x (omega arith) (omega arith) h)

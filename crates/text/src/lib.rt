@@ -2,11 +2,11 @@
 
 #![tactic(auto)]
 
-ghost use Rattle.std.specs.Prelude.{◌≡◌, [], ◌+◌, ◌-◌, ◌≤◌, min, leb, length, drop};
+ghost use Rattle.std.specs.Prelude.{◌≡◌, [], ◌+◌, ◌-◌, min, length};
 ghost use Rattle.std.proofs.lemmas.List.Edits.{sets};
 ghost use Rattle.text.specs.Text.{decimal, line_of, extended, said, with_text, behind};
 
-use seq::lesser;
+use itoa::Buffer;
 
 #[derive(Clone, Copy)]
 pub struct Line {
@@ -14,32 +14,20 @@ pub struct Line {
     pub length: usize,
 }
 
-// A number's digits stand in the last places, since the last digit is found first.
-#[derive(Clone, Copy)]
-struct Spelled {
-    bytes: [u8; 20],
-    from: usize,
-}
-
-fn room(size: usize, p: usize) -> usize
-    ensures { result ≡ size - p }
-{
-    if p < size { size - p } else { 0 }
-}
-
 // A text in a buffer, from place p on; what does not fit is left out. Gives the place behind.
-pub fn copy<'a>(out: &'a mut [u8], p: usize, t: &'a [u8]) -> usize
+#[tactic(auto, using(seq::proofs::Bytes::sets_past, crate::proofs::Laid::part_set))]
+pub fn copy(out: &mut [u8], p: usize, t: &[u8]) -> usize
     ensures { (result ≡ p + min (length t.now) (length out.old - p)) × (out.new ≡ sets out.old p t.now) }
 {
-    let n = lesser(t.len(), room(out.len(), p));
-    let mut i = 0;
-    while i < n {
-        out[p + i] = t[i];
-        i += 1;
+    if out.len() <= p {
+        return p;
     }
+    let n = t.len().min(out.len() - p);
+    out[p..p + n].copy_from_slice(&t[..n]);
     p + n
 }
 
+#[tactic(auto, unfolding(crate::specs::Text::line_of, crate::specs::Text::extended))]
 pub fn blank() -> Line
     ensures { result ≡ line_of [] }
 {
@@ -50,60 +38,32 @@ pub fn blank() -> Line
 }
 
 // A text behind a line.
-pub fn put(line: Line, t: &[u8]) -> Line
+#[tactic(auto, unfolding(crate::specs::Text::extended))]
+pub fn put(mut line: Line, t: &[u8]) -> Line
     ensures { result ≡ extended line t.now }
 {
-    let mut b = line.bytes;
-    let p = line.length;
-    let n = copy(&mut b, p, t);
-    Line {
-        bytes: b,
-        length: n,
-    }
+    let end = line.length;
+    line.length = copy(&mut line.bytes, end, t);
+    line
 }
 
-fn spell(x: u64) -> Spelled
-    ensures { (drop result.from result.bytes ≡ decimal x) × (result.from ≤ 20) }
-{
-    let mut b = [0u8; 20];
-    let mut i = 20;
-    let mut left = x;
-    while 9 < left {
-        i -= 1;
-        b[i] = 48 + (left % 10) as u8;
-        left = left / 10;
-    }
-    i -= 1;
-    b[i] = 48 + left as u8;
-    Spelled { bytes: b, from: i }
-}
-
+#[tactic(auto, using(crate::proofs::Numbers::decimal_std))]
 pub fn put_number(line: Line, x: u64) -> Line
     ensures { result ≡ extended line (decimal x) }
 {
-    let d = spell(x);
-    let b = d.bytes;
-    let from = d.from;
-    put(line, &b[from..])
-}
-
-fn fits(size: usize, p: usize, n: usize) -> bool
-    ensures { result ≡ leb (p + n) size }
-{
-    if size < p {
-        return false;
-    }
-    n <= size - p
+    put(line, Buffer::new().format(x).as_bytes())
 }
 
 // A line in a buffer, from place p on, if all of it fits. Gives the place behind it.
+#[tactic(auto, using(seq::proofs::Places::take_most, crate::proofs::Laid::part_whole))]
 pub fn append(out: &mut [u8], p: usize, line: Line) -> usize
     ensures { (result ≡ behind out.old p (said line)) × (out.new ≡ with_text out.old p (said line)) }
 {
-    let b = line.bytes;
-    let n = lesser(line.length, 128);
-    if !fits(out.len(), p, n) {
-        return p;
+    let said = &line.bytes[..line.length.min(line.bytes.len())];
+    let room = out.len().saturating_sub(p);
+    if room < said.len() {
+        p
+    } else {
+        copy(out, p, said)
     }
-    copy(out, p, &b[..n])
 }
