@@ -10,6 +10,7 @@ use borrow.Author.Tests.{not-true, eq-eqb, ne_eqb, lt-ltb, le-ltb, le-leb, ltb-t
 use Rattle.seq.specs.Places.{at, every, lead}
 use Rattle.seq.proofs.Tests.{both_true, either_false, true_false}
 use Rattle.seq.proofs.Places.{every_at, every_true, lead_full, lead_all}
+use Rattle.table.specs.declared.Refusal.TheVariants.{RowCount, RowUnsound, PeriodFalls}
 use Rattle.table.specs.Verdicts.{taken, refuse, ◌and_then◌}
 use Rattle.table.specs.Form.{in_order, all_zero, sound, unsound_row, rising, falling_row, count_verdict, rows_verdict, periods_verdict, form_verdict}
 use Rattle.kept.specs.Kept.{table_legal, row_kept, rows_kept, kept, lates_kept}
@@ -48,7 +49,7 @@ every_test m p =
     (λ e. every_true m p (lead_all m p (ltb-false _ _ (not-true _ e))))
     (λ e. rw (lead_full m p (every_at m p e), le-ltb m m (omega arith)))
 
-taken_thrice : (a b c : Bool) (r s : ℕ) → taken (refuse a 4 0 and_then refuse b 5 r and_then refuse c 6 s) true false ≡ not a && not b && not c
+taken_thrice : (a b c : Bool) (r s : ℕ) → taken (refuse a RowCount and_then refuse b (RowUnsound r) and_then refuse c (PeriodFalls s)) true false ≡ not a && not b && not c
 taken_thrice true b c r s = refl
 taken_thrice false true c r s = refl
 taken_thrice false false true r s = refl
