@@ -1,5 +1,7 @@
 -- When the figures of a state are legal: refusal 11.
-use Rattle.std.specs.Prelude.{ℕ, suc, ◌+◌, ◌-◌, List, Bool, ◌&&◌, eqb, leb}
+use Rattle.std.specs.Prelude.{ℕ, suc, ◌+◌, ◌-◌, List, Bool, ◌&&◌, not, eqb, leb}
+use Rattle.table.specs.declared.Refusal.TheVariants.{SizeZero, QueueFull, RunOver, StateIllegal}
+use Rattle.table.specs.Verdicts.{Verdict, refuse, ◌and_then◌}
 use Rattle.queue.specs.Queue.{proper}
 use Rattle.kept.specs.Kept.{table_legal, rows_kept, lates_kept}
 
@@ -19,3 +21,11 @@ figures_legal n next c t d k left counter late count names sizes hard given empt
     && eqb (hard + given + empty + lost) (next - 1)
     && clock_legal next
     && proper count names sizes
+
+-- a slot is refused with 11 or 10, a request with 11, 8 or 9, the first that applies
+abbrev pub slot_refusal : (ok : Bool) (next : ℕ) → Verdict
+slot_refusal ok next = refuse (not ok) StateIllegal and_then refuse (eqb next (suc last_slot)) RunOver
+
+abbrev pub request_refusal : (ok : Bool) (size count : ℕ) → Verdict
+request_refusal ok size count =
+    refuse (not ok) StateIllegal and_then refuse (eqb size 0) SizeZero and_then refuse (leb 32 count) QueueFull
