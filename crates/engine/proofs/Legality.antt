@@ -1,6 +1,6 @@
 -- What a legal state is known by, and the tests that tell it.
 use mathlib.Core.Path.{◌≡◌, refl}
-use mathlib.Core.Bool.{Bool, true, false, cond, ◌&&◌}
+use mathlib.Core.Bool.{Bool, true, false, not}
 use Prim.Native.Nat.{ℕ, suc, ◌+◌, ◌≤◌, ◌<◌}
 use native.Mathlib.Omega.{arith}
 use lib.Dec.{eqb, leb}
@@ -15,8 +15,10 @@ use Rattle.legal.proofs.Parts.{parts}
 use Rattle.queue.specs.Queue.{proper}
 use Rattle.engine.specs.declared.State.{State}
 use Rattle.engine.specs.Legal.{ran, legal}
-use Rattle.engine.specs.Slot.{slot_refusal}
-use Rattle.engine.specs.Calls.{request_refusal}
+use Rattle.table.specs.declared.Refusal.TheVariants.{SizeZero, QueueFull, RunOver, StateIllegal}
+use Rattle.table.specs.Verdicts.{Taken, refuse, ◌and_then◌}
+use Rattle.engine.specs.Slot.{slot_verdict}
+use Rattle.engine.specs.Calls.{request_verdict}
 
 module _ (s : State) where
   pub record Legal : Type 0 where
@@ -57,51 +59,41 @@ module _ (s : State) where
 
 -- the three parts of legality, as a call tests them
 pub parts_legal :
-    (s : State) {rows run queue both ok : Bool}
+    (s : State) {rows run queue : Bool}
     → rows ≡ (table_legal s.n s.c s.t s.d && rows_kept s.n s.c s.d s.k s.left s.counter)
     → run ≡ (lates_kept s.n (ran s) s.late && eqb (s.hard + s.given + s.empty + s.lost) (ran s) && clock_legal s.next)
     → queue ≡ proper s.count s.names s.sizes
-    → both ≡ (rows && run)
-    → ok ≡ (both && queue)
-    → ok ≡ legal s
+    → (rows && run && queue) ≡ legal s
 unfolding legal
-parts_legal s e_rows e_run e_queue e_both e_ok =
-    rw (e_ok, e_both, e_queue, e_run, e_rows)
+parts_legal s e_rows e_run e_queue =
+    rw (e_queue, e_run, e_rows)
     (parts s.n s.next s.c s.t s.d s.k s.left s.counter s.late s.count s.names s.sizes s.hard s.given s.empty s.lost)
 
--- a refusal that is 0
-unrefused : (b z : Bool) → ◌≡◌ {A = ℕ} (cond b (cond z 10 0) 11) 0 → (b ≡ true) × (z ≡ false)
-unrefused true true e = absurd (omega arith)
-unrefused true false e = (refl, refl)
-unrefused false z e = absurd (omega arith)
+-- a verdict that is taken
+slot_passed : (b z : Bool) → refuse (not b) StateIllegal and_then refuse z RunOver ≡ Taken → (b ≡ true) × (z ≡ false)
+slot_passed true true e = (refl, cc)
+slot_passed true false e = (refl, refl)
+slot_passed false z e = (cc, cc)
 
-pub slot_tested : (s : State) (lost : Bool) {o : Bool} {u : ℕ} → o ≡ legal s → u ≡ cond o (cond (eqb s.next (suc last_slot)) 10 0) 11 → u ≡ slot_refusal s lost
-unfolding slot_refusal
-slot_tested s lost e f = rw (← e) f
-
-pub slot_legal : (s : State) (lost : Bool) → slot_refusal s lost ≡ 0 → Legal s × (s.next ≤ last_slot)
-unfolding slot_refusal
+pub slot_legal : (s : State) (lost : Bool) → slot_verdict s lost ≡ Taken → Legal s × (s.next ≤ last_slot)
+unfolding slot_verdict
 slot_legal s lost e =
-    let y = unrefused (legal s) (eqb s.next (suc last_slot)) e in
+    let y = slot_passed (legal s) (eqb s.next (suc last_slot)) e in
     let g = legal_says s y.0 in
     let z : s.next ≡ suc last_slot → ⊥ = eqb-false _ _ y.1 in
     let k = g.clock in
     (g, omega arith)
 
-unasked : (b z w : Bool) → ◌≡◌ {A = ℕ} (cond b (cond z 8 (cond w 9 0)) 11) 0 → (b ≡ true) × (z ≡ false) × (w ≡ false)
-unasked true true w e = absurd (omega arith)
-unasked true false true e = absurd (omega arith)
-unasked true false false e = (refl, refl, refl)
-unasked false z w e = absurd (omega arith)
+request_passed : (b z w : Bool) → refuse (not b) StateIllegal and_then refuse z SizeZero and_then refuse w QueueFull ≡ Taken → (b ≡ true) × (z ≡ false) × (w ≡ false)
+request_passed true true w e = (refl, cc, cc)
+request_passed true false true e = (refl, refl, cc)
+request_passed true false false e = (refl, refl, refl)
+request_passed false z w e = (cc, cc, cc)
 
-pub request_tested : (s : State) (name size : ℕ) {o : Bool} {u : ℕ} → o ≡ legal s → u ≡ cond o (cond (eqb size 0) 8 (cond (leb 32 s.count) 9 0)) 11 → u ≡ request_refusal s name size
-unfolding request_refusal
-request_tested s name size e f = rw (← e) f
-
-pub request_legal : (s : State) (name size : ℕ) → request_refusal s name size ≡ 0 → Legal s × (1 ≤ size) × (s.count < 32)
-unfolding request_refusal
+pub request_legal : (s : State) (name size : ℕ) → request_verdict s name size ≡ Taken → Legal s × (1 ≤ size) × (s.count < 32)
+unfolding request_verdict
 request_legal s name size e =
-    let y = unasked (legal s) (eqb size 0) (leb 32 s.count) e in
+    let y = request_passed (legal s) (eqb size 0) (leb 32 s.count) e in
     let z : size ≡ 0 → ⊥ = eqb-false _ _ y.1 in
     let w : s.count < 32 = leb-false _ _ y.2 in
     (legal_says s y.0, omega arith, w)

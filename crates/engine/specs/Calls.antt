@@ -1,5 +1,8 @@
 -- A request, and the late total.
-use Rattle.std.specs.Prelude.{ℕ, cond, eqb, leb}
+use Rattle.std.specs.Prelude.{ℕ, Err, cond}
+use Rattle.table.specs.declared.Refusal.TheVariants.{StateIllegal}
+use Rattle.table.specs.Verdicts.{Verdict, Taken, taken}
+use Rattle.legal.specs.Legal.{request_refusal}
 use Rattle.late.specs.Late.{total}
 use Rattle.queue.specs.Queue.{asked}
 use Rattle.engine.specs.declared.State.{State}
@@ -13,14 +16,13 @@ module _ (s : State) (name size : ℕ) where
   joined = with_figures s s.next s.left s.counter s.late (asked (queue s) (record { name = name; size = size })) (tally s)
 
   -- refusals 11, 8 and 9
-  unfoldable pub request_refusal : ℕ
-  request_refusal = cond (legal s) (cond (eqb size 0) 8 (cond (leb 32 s.count) 9 0)) 11
+  unfoldable pub request_verdict : Verdict
+  request_verdict = request_refusal (legal s) size s.count
 
   unfoldable pub request_of : Requested
-  request_of =
-      cond (eqb request_refusal 0) (record { state = joined; number = 0 })
-      (record { state = s; number = request_refusal })
+  request_of = record { state = taken request_verdict joined s; verdict = request_verdict }
 
 -- the sum of the late counts
 unfoldable pub late_total_of : State → Summed
-late_total_of s = cond (legal s) (record { number = 0; total = total 16 s.late }) (record { number = 11; total = 0 })
+late_total_of s =
+    cond (legal s) (record { verdict = Taken; total = total 16 s.late }) (record { verdict = Err StateIllegal; total = 0 })

@@ -1,5 +1,5 @@
 -- One slot, in document 01's order: the opening (reload, release, choice) and, once it is known whether the slot was lost, the rest.
-use Rattle.std.specs.Prelude.{ℕ, suc, ◌+◌, List, Bool, cond, ◌&&◌, not, eqb}
+use Rattle.std.specs.Prelude.{ℕ, suc, ◌+◌, List, Bool, cond, ◌&&◌, not}
 use Rattle.std.specs.Int.Count.{ones}
 use Rattle.seq.specs.Places.{flag, at}
 use Rattle.rows.specs.Rows.{reloaded, released, charged, worked}
@@ -9,7 +9,8 @@ use Rattle.uses.specs.declared.Choice.{Choice}
 use Rattle.uses.specs.declared.Use.{Use}
 use Rattle.uses.specs.declared.Use.TheVariants as use_for
 use Rattle.uses.specs.Uses.{chosen, is_give, used_for, row_served, is_hard, is_given, is_empty, is_lost}
-use Rattle.legal.specs.Legal.{last_slot}
+use Rattle.table.specs.Verdicts.{Verdict, Taken, taken}
+use Rattle.legal.specs.Legal.{slot_refusal}
 use Rattle.queue.specs.Queue.{served}
 use Rattle.engine.specs.declared.State.{State}
 use Rattle.engine.specs.declared.Answer.{Answer}
@@ -70,13 +71,13 @@ module _ (s : State) (lost : Bool) where
       (tallied use_of (tally s))
 
   unfoldable pub answered : Answer
-  answered = record { number = 0; used = use_of; word = late_of; late = ones late_of }
+  answered = record { verdict = Taken; used = use_of; word = late_of; late = ones late_of }
 
   -- refusals 11 and 10
-  unfoldable pub slot_refusal : ℕ
-  slot_refusal = cond (legal s) (cond (eqb s.next (suc last_slot)) 10 0) 11
+  unfoldable pub slot_verdict : Verdict
+  slot_verdict = slot_refusal (legal s) s.next
 
   unfoldable pub slot_of : Slotted
   slot_of =
-      cond (eqb slot_refusal 0) (record { state = settled; answer = answered })
-      (record { state = s; answer = record { number = slot_refusal; used = use_for.Empty; word = 0; late = 0 } })
+      taken slot_verdict (record { state = settled; answer = answered })
+      (record { state = s; answer = record { verdict = slot_verdict; used = use_for.Empty; word = 0; late = 0 } })

@@ -4,15 +4,14 @@
 
 ghost use Rattle.std.specs.Prelude.{◌≡◌};
 ghost use Rattle.std.specs.Int.Count.{ones};
-ghost use Rattle.seq.specs.Places.{flag};
+ghost use Rattle.table.specs.Verdicts.{number};
 ghost use Rattle.uses.specs.Numbers.{use_number, use_who};
 ghost use Rattle.engine.specs.Slot.{slot_of};
-ghost use Rattle.engine.specs.Said.{cases_of, is_on, slot_said};
+ghost use Rattle.engine.specs.Said.{verdict_told, cases_of, is_on, slot_said};
 ghost use Rattle.engine.specs.Calls.{request_of, late_total_of};
-ghost use Rattle.engine.specs.Start.{blank, no_state, start_of};
+ghost use Rattle.engine.specs.Start.{blank, start_of};
 
-use seq::both;
-use table::{Table, Verdict};
+use table::{Refusal, Table, Verdict};
 use uses::Use;
 
 // Of each row its table figures, its allowance, the work left, its counter and its late count; the queue in 32 places; four tallies.
@@ -38,10 +37,10 @@ pub struct State {
     pub lost: u64,
 }
 
-// Number 0 where the slot was run; bit 0 of the late word for row 1.
+// Bit 0 of the late word for row 1.
 #[derive(Clone, Copy)]
 pub struct Answer {
-    pub number: u8,
+    pub verdict: Verdict,
     pub used: Use,
     pub word: u16,
     pub late: u32,
@@ -80,36 +79,33 @@ pub struct SlotSaid {
 #[derive(Clone, Copy)]
 pub struct Requested {
     pub state: State,
-    pub number: u8,
+    pub verdict: Verdict,
 }
 
 #[derive(Clone, Copy)]
 pub struct Summed {
-    pub number: u8,
+    pub verdict: Verdict,
     pub total: u64,
 }
 
 // The answer of a slot that was run.
-fn answered(used: Use, w: u16) -> Said
-    ensures { result ≡ record { number = 0; used = use_number used; word = w; late = ones w; who = use_who used } }
+fn answered(used: Use, word: u16) -> Said
+    ensures { result ≡ record { number = 0; used = use_number used; word = word; late = ones word; who = use_who used } }
 {
-    let number = uses::use_number(used);
-    let who = uses::use_who(used);
-    let late = marks::late_rows(w);
     Said {
         number: 0,
-        used: number,
-        word: w,
-        late,
-        who,
+        used: uses::use_number(used),
+        word,
+        late: marks::late_rows(word),
+        who: uses::use_who(used),
     }
 }
 
-fn refused(u: u8) -> Said
-    ensures { result ≡ record { number = u; used = 0; word = 0; late = 0; who = 0 } }
+fn refused(why: Refusal) -> Said
+    ensures { result ≡ record { number = number why; used = 0; word = 0; late = 0; who = 0 } }
 {
     Said {
-        number: u,
+        number: why.number(),
         used: 0,
         word: 0,
         late: 0,
@@ -117,14 +113,24 @@ fn refused(u: u8) -> Said
     }
 }
 
+// What a slot's number says: it is refused with 10 or 11, if at all.
+fn verdict_told(number: u8) -> Verdict
+    ensures { result ≡ verdict_told number }
+{
+    match number {
+        0 => Ok(()),
+        10 => Err(Refusal::RunOver),
+        _ => Err(Refusal::StateIllegal),
+    }
+}
+
 // `name` is that of the head request before the slot.
 fn in_cases(a: Said, name: u16) -> Answer
     ensures { result ≡ cases_of a name }
 {
-    let used = uses::use_told(a.used, a.who, name);
     Answer {
-        number: a.number,
-        used,
+        verdict: verdict_told(a.number),
+        used: uses::use_told(a.used, a.who, name),
         word: a.word,
         late: a.late,
     }
@@ -136,14 +142,13 @@ fn is_on(x: u8) -> bool
     x != 0
 }
 
+#[tactic(auto, unfolding(crate::specs::Start::blank))]
 fn blank(next: u64, x: Table, k: [u16; 16]) -> State
     ensures { result ≡ blank next x k }
 {
-    let c = x.c;
-    let t = x.t;
-    let d = x.d;
+    let Table { n, c, t, d } = x;
     State {
-        n: x.n,
+        n,
         next,
         c,
         t,
@@ -162,100 +167,85 @@ fn blank(next: u64, x: Table, k: [u16; 16]) -> State
     }
 }
 
-fn no_state() -> State
-    ensures { result ≡ no_state }
-{
-    let none = Table {
-        n: 0,
-        c: [0; 16],
-        t: [0; 16],
-        d: [0; 16],
-    };
-    blank(0, none, [0; 16])
-}
-
+#[tactic(auto, unfolding(crate::specs::Start::start_of))]
 pub fn start(x: Table) -> Started
     ensures { result ≡ start_of x }
 {
     let r = allowance::test(x);
-    let v = r.verdict;
-    let Verdict::Taken = v else {
-        return Started {
-            verdict: v,
-            state: no_state(),
-        };
+    let state = match r.verdict {
+        Ok(()) => blank(1, x, r.each),
+        Err(_) => blank(0, Table::zeros(0), [0; 16]),
     };
-    let k = r.each;
     Started {
-        verdict: v,
-        state: blank(1, x, k),
+        verdict: r.verdict,
+        state,
     }
 }
 
 // Every call on a state goes the same way: each figure into a local of its own, legality in its three parts, the steps on the
 // locals, and a new state of the locals at the end. Nothing refers to the state itself, so the compiler never copies it whole,
-// and puts back only what a step changes.
+// and puts back only what a step changes. (`tests/copies` and docs/DESIGN-PASS.md: with one test of legality on `&State`, and
+// with steps on the fields of `s`, it copies.)
 
 // The steps of document 01 in their order. Whether the slot is lost is asked only after the choice.
 pub fn slot_said(s: State, lost: u8) -> SlotSaid
     ensures { result ≡ slot_said s lost }
 {
-    let n = s.n;
-    let mut next = s.next;
-    let c = s.c;
-    let t = s.t;
-    let d = s.d;
-    let k = s.k;
-    let mut left = s.left;
-    let mut counter = s.counter;
-    let mut late = s.late;
-    let mut count = s.count;
-    let mut names = s.names;
-    let mut sizes = s.sizes;
-    let mut hard = s.hard;
-    let mut given = s.given;
-    let mut empty = s.empty;
-    let mut gone = s.lost;
-
-    let rows = kept::rows_legal(n, &c, &t, &d, &k, &left, &counter);
-    let run = legal::run_legal(n, next, &late, hard, given, empty, gone);
-    let queue = queue::is_proper(count, &names, &sizes);
-    let ok = both(both(rows, run), queue);
-
-    let u = legal::slot_refusal(ok, next);
-    let mut answer = refused(u);
-    if u == 0 {
-        let ran = next - 1;
-        // 1. Reload
-        rows::reload(&mut counter, &left, &k, n);
-        // 2. Release
-        let marks = marks::mark(&t, &d, n, ran);
-        rows::release(&mut left, &c, marks.due);
-        // 3. Use
-        let choice = uses::choose(&left, &counter, count, n);
-        let away = is_on(lost);
-        let used = uses::used_for(away, choice, names[0]);
-        rows::charge(&mut counter, n, uses::charges(choice, away));
-        rows::work(&mut left, uses::row_served(used));
-        let served = uses::is_given(used);
-        let done = queue::is_last(served, sizes[0]);
-        queue::lower(&mut sizes, served);
-        queue::shift(&mut sizes, done);
-        queue::shift(&mut names, done);
-        count = queue::fewer(count, done);
-        // 4. Lateness
-        let w = marks::late_word(&left, marks.end);
-        late::drop_late(&mut left, w);
-        late::count_late(&mut late, w);
-        // 5. Tally and clock
-        hard = late::count_up(hard, uses::is_hard(used));
-        given = late::count_up(given, served);
-        empty = late::count_up(empty, uses::is_empty(used));
-        gone = late::count_up(gone, uses::is_lost(used));
-        next = late::count_up(next, true);
-        answer = answered(used, w);
-    }
-
+    let State {
+        n,
+        mut next,
+        c,
+        t,
+        d,
+        k,
+        mut left,
+        mut counter,
+        mut late,
+        mut count,
+        mut names,
+        mut sizes,
+        mut hard,
+        mut given,
+        mut empty,
+        lost: mut gone,
+    } = s;
+    let ok = kept::rows_legal(n, &c, &t, &d, &k, &left, &counter)
+        & legal::run_legal(n, next, &late, hard, given, empty, gone)
+        & queue::is_proper(count, &names, &sizes);
+    let answer = match legal::slot_refusal(ok, next) {
+        Err(why) => refused(why),
+        Ok(()) => {
+            let ran = next - 1;
+            // 1. Reload
+            rows::reload(&mut counter, &left, &k, n);
+            // 2. Release
+            let marks = marks::mark(&t, &d, n, ran);
+            rows::release(&mut left, &c, marks.due);
+            // 3. Use
+            let choice = uses::choose(&left, &counter, count, n);
+            let away = is_on(lost);
+            let used = uses::used_for(away, choice, names[0]);
+            rows::charge(&mut counter, n, uses::charges(choice, away));
+            rows::work(&mut left, uses::row_served(used));
+            let served = uses::is_given(used);
+            let done = queue::is_last(served, sizes[0]);
+            queue::lower(&mut sizes, served);
+            queue::shift(&mut sizes, done);
+            queue::shift(&mut names, done);
+            count = queue::fewer(count, done);
+            // 4. Lateness
+            let w = marks::late_word(&left, marks.end);
+            late::drop_late(&mut left, w);
+            late::count_late(&mut late, w);
+            // 5. Tally and clock
+            hard = late::count_up(hard, uses::is_hard(used));
+            given = late::count_up(given, served);
+            empty = late::count_up(empty, uses::is_empty(used));
+            gone = late::count_up(gone, uses::is_lost(used));
+            next = late::count_up(next, true);
+            answered(used, w)
+        }
+    };
     SlotSaid {
         state: State {
             n,
@@ -279,55 +269,46 @@ pub fn slot_said(s: State, lost: u8) -> SlotSaid
     }
 }
 
-fn byte(on: bool) -> u8
-    ensures { result ≡ flag on }
-{
-    if on { 1 } else { 0 }
-}
-
 pub fn slot(s: State, lost: bool) -> Slotted
     ensures { result ≡ slot_of s lost }
 {
-    let names = s.names;
-    let name = names[0];
-    let r = slot_said(s, byte(lost));
-    let answer = in_cases(r.answer, name);
-    let state = r.state;
-    Slotted { state, answer }
+    let r = slot_said(s, u8::from(lost));
+    Slotted {
+        state: r.state,
+        answer: in_cases(r.answer, s.names[0]),
+    }
 }
 
 pub fn request(s: State, name: u16, size: u16) -> Requested
     ensures { result ≡ request_of s name size }
 {
-    let n = s.n;
-    let next = s.next;
-    let c = s.c;
-    let t = s.t;
-    let d = s.d;
-    let k = s.k;
-    let left = s.left;
-    let counter = s.counter;
-    let late = s.late;
-    let mut count = s.count;
-    let mut names = s.names;
-    let mut sizes = s.sizes;
-    let hard = s.hard;
-    let given = s.given;
-    let empty = s.empty;
-    let gone = s.lost;
-
-    let rows = kept::rows_legal(n, &c, &t, &d, &k, &left, &counter);
-    let run = legal::run_legal(n, next, &late, hard, given, empty, gone);
-    let queue = queue::is_proper(count, &names, &sizes);
-    let ok = both(both(rows, run), queue);
-
-    let u = legal::request_refusal(ok, size, count);
-    if u == 0 {
+    let State {
+        n,
+        next,
+        c,
+        t,
+        d,
+        k,
+        left,
+        counter,
+        late,
+        mut count,
+        mut names,
+        mut sizes,
+        hard,
+        given,
+        empty,
+        lost: gone,
+    } = s;
+    let ok = kept::rows_legal(n, &c, &t, &d, &k, &left, &counter)
+        & legal::run_legal(n, next, &late, hard, given, empty, gone)
+        & queue::is_proper(count, &names, &sizes);
+    let verdict = legal::request_refusal(ok, size, count);
+    if verdict.is_ok() {
         queue::put(&mut names, count, name);
         queue::put(&mut sizes, count, size);
-        count = count + 1;
+        count += 1;
     }
-
     Requested {
         state: State {
             n,
@@ -347,43 +328,42 @@ pub fn request(s: State, name: u16, size: u16) -> Requested
             empty,
             lost: gone,
         },
-        number: u,
+        verdict,
     }
 }
 
 pub fn late_total(s: State) -> Summed
     ensures { result ≡ late_total_of s }
 {
-    let n = s.n;
-    let next = s.next;
-    let c = s.c;
-    let t = s.t;
-    let d = s.d;
-    let k = s.k;
-    let left = s.left;
-    let counter = s.counter;
-    let late = s.late;
-    let count = s.count;
-    let names = s.names;
-    let sizes = s.sizes;
-    let hard = s.hard;
-    let given = s.given;
-    let empty = s.empty;
-    let gone = s.lost;
-
-    let rows = kept::rows_legal(n, &c, &t, &d, &k, &left, &counter);
-    let run = legal::run_legal(n, next, &late, hard, given, empty, gone);
-    let queue = queue::is_proper(count, &names, &sizes);
-    let ok = both(both(rows, run), queue);
-
+    let State {
+        n,
+        next,
+        c,
+        t,
+        d,
+        k,
+        left,
+        counter,
+        late,
+        count,
+        names,
+        sizes,
+        hard,
+        given,
+        empty,
+        lost: gone,
+    } = s;
+    let ok = kept::rows_legal(n, &c, &t, &d, &k, &left, &counter)
+        & legal::run_legal(n, next, &late, hard, given, empty, gone)
+        & queue::is_proper(count, &names, &sizes);
     if !ok {
         return Summed {
-            number: 11,
+            verdict: Err(Refusal::StateIllegal),
             total: 0,
         };
     }
     Summed {
-        number: 0,
+        verdict: Ok(()),
         total: late::late_total(&late),
     }
 }

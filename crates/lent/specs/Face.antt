@@ -18,7 +18,7 @@ use Rattle.lent.specs.declared.Sum.{Sum}
 use Rattle.lent.specs.declared.RequestTold.{RequestTold}
 
 abbrev pub told_face : Requested → Told
-told_face r = record { number = r.number; row = 0 }
+told_face r = record { number = number_of r.verdict; row = 0 }
 
 abbrev pub request_told : State → Ask → RequestTold
 request_told s ask = record { state = (request_of s ask.name ask.size).state; answer = told_face (request_of s ask.name ask.size) }
@@ -38,4 +38,4 @@ abbrev pub began_face : Started → Began
 began_face r = record { number = number_of r.verdict; row = row_named r.verdict; state = r.state }
 
 abbrev pub sum_face : Summed → Sum
-sum_face r = record { number = r.number; total = r.total }
+sum_face r = record { number = number_of r.verdict; total = r.total }

@@ -12,7 +12,7 @@ ghost use Rattle.engine.specs.Said.{said_of, is_on};
 ghost use Rattle.lent.specs.Face.{told_face, request_told, read_face, wrote_face, tried_face, began_face, sum_face};
 
 use engine::{Said, State};
-use table::Table;
+use table::{Table, number_of, row_named};
 
 // number: 0, or the refusal. row: the row that it names, from 1 on; 0 for none.
 #[repr(C)]
@@ -81,14 +81,12 @@ fn request_told(s: State, ask: Ask) -> RequestTold
     ensures { result ≡ request_told s ask }
 {
     let r = engine::request(s, ask.name, ask.size);
-    let answer = Told {
-        number: r.number,
-        row: 0,
-    };
-    let state = r.state;
     RequestTold {
-        state: state,
-        answer: answer,
+        state: r.state,
+        answer: Told {
+            number: number_of(r.verdict),
+            row: 0,
+        },
     }
 }
 
@@ -115,14 +113,10 @@ pub extern "C" fn fjurke_read(s: &[u8]) -> Read
     ensures { result ≡ read_face (read_of s.now) }
 {
     let r = record::read(s);
-    let v = r.verdict;
-    let number = table::number_of(v);
-    let row = table::row_named(v);
-    let x = r.table;
     Read {
-        number: number,
-        row: row,
-        table: x,
+        number: number_of(r.verdict),
+        row: row_named(r.verdict),
+        table: r.table,
     }
 }
 
@@ -130,13 +124,10 @@ pub extern "C" fn fjurke_read(s: &[u8]) -> Read
 pub extern "C" fn fjurke_write(x: Table, b: &mut [u8]) -> Wrote
     ensures { (result ≡ wrote_face (written_of x (length b.old))) × (b.new ≡ buffer_of x b.old) }
 {
-    let r = writer::write(x, &mut *b);
-    let v = r.verdict;
-    let number = table::number_of(v);
-    let row = table::row_named(v);
+    let r = writer::write(x, b);
     Wrote {
-        number: number,
-        row: row,
+        number: number_of(r.verdict),
+        row: row_named(r.verdict),
         length: r.length,
     }
 }
@@ -146,15 +137,12 @@ pub extern "C" fn fjurke_test(x: Table) -> Tried
     ensures { result ≡ tried_face (test_of x) }
 {
     let r = allowance::test(x);
-    let v = r.verdict;
-    let number = table::number_of(v);
-    let row = table::row_named(v);
     let each = r.each;
     Tried {
-        number: number,
+        number: number_of(r.verdict),
         k: r.k,
-        row: row,
-        each: each,
+        row: row_named(r.verdict),
+        each,
     }
 }
 
@@ -163,14 +151,10 @@ pub extern "C" fn fjurke_start(x: Table) -> Began
     ensures { result ≡ began_face (start_of x) }
 {
     let r = engine::start(x);
-    let v = r.verdict;
-    let number = table::number_of(v);
-    let row = table::row_named(v);
-    let state = r.state;
     Began {
-        number: number,
-        row: row,
-        state: state,
+        number: number_of(r.verdict),
+        row: row_named(r.verdict),
+        state: r.state,
     }
 }
 
@@ -180,7 +164,7 @@ pub extern "C" fn fjurke_late_total(s: State) -> Sum
 {
     let r = engine::late_total(s);
     Sum {
-        number: r.number,
+        number: number_of(r.verdict),
         total: r.total,
     }
 }
