@@ -52,23 +52,13 @@ pub fn charges(choice: Choice, lost: bool) -> bool
 fn is_audio(choice: Choice) -> bool
     ensures { result ≡ is_audio choice }
 {
-    match choice {
-        Choice::Give => false,
-        Choice::Hard(_) => true,
-        Choice::Back => false,
-        Choice::Idle => false
-    }
+    matches!(choice, Choice::Hard(_))
 }
 
 fn is_idle(choice: Choice) -> bool
     ensures { result ≡ is_idle choice }
 {
-    match choice {
-        Choice::Give => false,
-        Choice::Hard(_) => false,
-        Choice::Back => false,
-        Choice::Idle => true
-    }
+    matches!(choice, Choice::Idle)
 }
 
 fn audio_row(choice: Choice) -> usize
