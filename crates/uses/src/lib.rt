@@ -70,7 +70,8 @@ fn audio_row(choice: Choice) -> usize
     }
 }
 
-// Tests and no match with three ways or four, of which the compiler would make a jump through a table; so too in `use_number` and `use_who`.
+// Tests and no match with three ways or four, of which the compiler would make a jump through a table; so too in `use_number`
+// and `use_who`.
 fn chosen_use(choice: Choice, name: u16) -> Use
     ensures { result ≡ chosen_use choice name }
 {
