@@ -19,6 +19,25 @@ is_give (choice.Hard row) = false
 is_give choice.Back = false
 is_give choice.Idle = false
 
+abbrev pub is_audio : Choice → Bool
+is_audio choice.Give = false
+is_audio (choice.Hard row) = true
+is_audio choice.Back = false
+is_audio choice.Idle = false
+
+abbrev pub is_idle : Choice → Bool
+is_idle choice.Give = false
+is_idle (choice.Hard row) = false
+is_idle choice.Back = false
+is_idle choice.Idle = true
+
+-- the row that is chosen; 0 for none
+abbrev pub audio_row : Choice → ℕ
+audio_row choice.Give = 0
+audio_row (choice.Hard row) = row
+audio_row choice.Back = 0
+audio_row choice.Idle = 0
+
 -- What the slot is used for, where the head request has this name
 abbrev pub chosen_use : Choice → ℕ → Use
 chosen_use choice.Give name = use_for.Given name

@@ -5,7 +5,7 @@
 ghost use Rattle.std.specs.Prelude.{◌≡◌, ◌&&◌, not};
 ghost use Rattle.rows.specs.Rows.{none_zero};
 ghost use Rattle.uses.specs.Numbers.{use_number, use_who, use_told};
-ghost use Rattle.uses.specs.Uses.{chosen, is_give, chosen_use, used_for, row_served, is_hard, is_given, is_empty, is_lost};
+ghost use Rattle.uses.specs.Uses.{chosen, is_give, is_audio, is_idle, audio_row, chosen_use, used_for, row_served, is_hard, is_given, is_empty, is_lost};
 
 // Who should have a slot: the head request, the first row with work left by its number from 1 on, the head request in the
 // background, or nobody.
@@ -49,14 +49,39 @@ pub fn charges(choice: Choice, lost: bool) -> bool
     matches!(choice, Choice::Give) & !lost
 }
 
-// Two ways and a rest: of a match with four ways the compiler would make a jump through a table.
+fn is_audio(choice: Choice) -> bool
+    ensures { result ≡ is_audio choice }
+{
+    matches!(choice, Choice::Hard(_))
+}
+
+fn is_idle(choice: Choice) -> bool
+    ensures { result ≡ is_idle choice }
+{
+    matches!(choice, Choice::Idle)
+}
+
+fn audio_row(choice: Choice) -> usize
+    ensures { result ≡ audio_row choice }
+{
+    match choice {
+        Choice::Hard(row) => row,
+        _ => 0,
+    }
+}
+
+// Tests and no match with three ways or four, of which the compiler would make a jump through a table; so too in `use_number`
+// and `use_who`.
 fn chosen_use(choice: Choice, name: u16) -> Use
     ensures { result ≡ chosen_use choice name }
 {
-    match choice {
-        Choice::Hard(row) => Use::Hard(row),
-        Choice::Idle => Use::Empty,
-        _ => Use::Given(name),
+    if is_audio(choice) {
+        return Use::Hard(audio_row(choice));
+    }
+    if is_idle(choice) {
+        Use::Empty
+    } else {
+        Use::Given(name)
     }
 }
 
@@ -106,21 +131,19 @@ pub fn is_lost(used: Use) -> bool
 pub fn use_number(u: Use) -> u8
     ensures { result ≡ use_number u }
 {
-    match u {
-        Use::Empty => 0,
-        Use::Hard(_) => 1,
-        Use::Given(_) => 2,
-        Use::Lost => 3,
-    }
+    u8::from(is_hard(u)) + 2 * u8::from(is_given(u)) + 3 * u8::from(is_lost(u))
 }
 
 pub fn use_who(u: Use) -> usize
     ensures { result ≡ use_who u }
 {
-    match u {
-        Use::Hard(row) => row,
-        Use::Given(name) => usize::from(name),
-        _ => 0,
+    if let Use::Hard(row) = u {
+        return row;
+    }
+    if let Use::Given(name) = u {
+        usize::from(name)
+    } else {
+        0
     }
 }
 

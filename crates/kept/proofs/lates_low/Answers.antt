@@ -1,4 +1,4 @@
-use Rattle.std.proofs.Common.{◌≡◌, min, refl, sym, arith}
+use Rattle.std.proofs.Common.{min, refl, sym, arith}
 use Rattle.std.proofs.lemmas.List.{get_or-take, length-take-le}
 use lib.Dec.{leb}
 use borrow.Author.Tests.{le-leb, lt-leb}
@@ -25,9 +25,3 @@ loop-x-preserved c =
     let m = length-take-le c.min.result a.late.now (omega arith) in
     let e = get_or-take c.min.result a.late.now i 0 (omega arith) in
     rw (every_more i, c.loop-x.invariant) (le-leb (at a.late.now i) a.ran (omega arith))
-
-pub returns : goal.returns
-returns c =
-    let m = length-take-le c.min.result c.args.late.now (omega arith) in
-    let e : c.loop-x.x-index ≡ min c.args.n 16 = omega arith in
-    sym (rw e at c.loop-x.invariant)

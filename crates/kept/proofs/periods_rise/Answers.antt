@@ -1,5 +1,4 @@
 use mathlib.Core.Path.{◌≡◌, sym}
-use Prim.Native.Nat.{◌+◌, min}
 use native.Mathlib.Omega.{arith}
 use borrow.Author.Tests.{le-leb}
 use Rattle.seq.specs.Places.{at}
@@ -9,11 +8,9 @@ use Rattle.kept.proofs.periods_rise.Goals as goal
 pub loop-i-init : goal.loop-i-init
 loop-i-init c =
     let t = c.args.t.now in
-    sym (every_true _ _ (λ j h. let z : j ≡ 0 = omega (arith, h) in rw z (le-leb (at t 0) (at t 0) (omega arith))))
+    (omega arith, omega arith, omega arith, sym (every_true _ _ (λ j h. let z : j ≡ 0 = omega (arith, h) in rw z (le-leb (at t 0) (at t 0) (omega arith)))))
 
 pub loop-i-preserved : goal.loop-i-preserved
 loop-i-preserved c =
     let l = c.loop-i in
-    let e : min l.i (min c.args.n 16) ≡ l.i = omega arith in
-    let f : min (l.i + 1) (min c.args.n 16) ≡ l.i + 1 = omega arith in
-    rw (f, every_more l.i, ← rw e at l.invariant)
+    (omega arith, omega arith, l.invariant.2, rw (every_more l.i, ← l.invariant.3))
