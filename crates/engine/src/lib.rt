@@ -172,13 +172,15 @@ pub fn start(x: Table) -> Started
     ensures { result ≡ start_of x }
 {
     let r = allowance::test(x);
-    let state = match r.verdict {
-        Ok(()) => blank(1, x, r.each),
-        Err(_) => blank(0, Table::zeros(0), [0; 16]),
+    let Ok(()) = r.verdict else {
+        return Started {
+            verdict: r.verdict,
+            state: blank(0, Table::zeros(0), [0; 16]),
+        };
     };
     Started {
         verdict: r.verdict,
-        state,
+        state: blank(1, x, r.each),
     }
 }
 
