@@ -1,5 +1,4 @@
-use mathlib.Core.Path.{◌≡◌, refl}
-use native.Mathlib.Omega.{arith}
+use Rattle.std.proofs.Common.{◌≡◌, refl, arith}
 use Rattle.seq.specs.Places.{over}
 use Rattle.seq.proofs.Places.{over_more, over_at, over_same}
 use Rattle.rows.specs.Rows.{rows_of, charged}
@@ -11,17 +10,16 @@ returns-then-not-on c = rw c.if-not-on.true (over_same (rows_of c.args.n) _ _ (�
 
 pub loop-i-init : goal.loop-i-init
 unfolding over
-loop-i-init c = (omega arith, c.lesser-m.ensures, refl)
+loop-i-init c = refl
 
 pub loop-i-preserved : goal.loop-i-preserved
 loop-i-preserved c =
     let l = c.loop-i in
-    (omega arith, l.invariant.1, over_more 0 l.i _ _ _ _ l.invariant.2 (rw (c.less.ensures, over_at 0 l.i _ _ l.counter l.i l.invariant.2 (omega arith))))
+    over_more 0 l.i _ _ _ _ l.invariant (rw (c.saturating_sub.ensures, over_at 0 l.i _ _ l.counter l.i l.invariant (omega arith)))
 
 pub returns : goal.returns
 unfolding charged
 returns c =
     let l = c.loop-i in
-    let y = c.args in
-    let e : l.i ≡ rows_of y.n = omega (arith, l.invariant.1) in
-    rw c.if-not-on.false (rw e at l.invariant.2)
+    let e : l.i ≡ rows_of c.args.n = omega (arith, c.min-i-end.ensures) in
+    rw c.if-not-on.false (rw e at l.invariant)

@@ -1,9 +1,8 @@
 use mathlib.Core.Path.{◌≡◌}
 use mathlib.Core.Bool.{cond}
-use Prim.Native.Nat.{◌-◌, ◌≤◌}
 use Rattle.seq.specs.Places.{at, over}
-use Rattle.seq.specs.Words.{bit, top_of}
+use Rattle.seq.specs.Words.{bit}
 use Rattle.rows.proofs.release.Given as goal
 
 abbrev pub invariant-loop-i : goal.invariant-loop-i
-invariant-loop-i l = (l.i ≤ l.m) × (l.m ≡ top_of l.due) × (l.left ≡ over l.i (λ j x. cond (bit l.due j) (at l.c j) x) l.initial.left)
+invariant-loop-i l = (l.left ≡ over l.i (λ j x. cond (bit l.due j) (at l.c j) x) l.initial.left)

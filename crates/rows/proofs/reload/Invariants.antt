@@ -1,9 +1,9 @@
 use mathlib.Core.Path.{◌≡◌}
-use Prim.Native.Nat.{◌-◌, ◌≤◌}
+use Prim.Native.Nat.{◌≤◌}
 use Rattle.seq.specs.Places.{at, over}
-use Rattle.rows.specs.Rows.{rows_of, idle}
+use Rattle.rows.specs.Rows.{idle}
 use Rattle.rows.proofs.reload.Given as goal
 
 abbrev pub invariant-loop-i : goal.invariant-loop-i
 invariant-loop-i l =
-    (l.i ≤ l.m) × (l.m ≡ rows_of l.n) × (l.i ≤ idle l.n l.left) × (l.counter ≡ over l.i (λ j x. at l.k j) l.initial.counter)
+    (l.i ≤ idle l.n l.left) × (l.counter ≡ over l.i (λ j x. at l.k j) l.initial.counter)
