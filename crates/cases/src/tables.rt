@@ -11,8 +11,7 @@ pub fn table_of(rows: &[(u16, u16, u16)]) -> Table
 {
     let n = rows.len().min(16);
     let mut x = Table::zeros(n);
-    for i in 0..n {
-        let (c, t, d) = rows[i];
+    for (i, &(c, t, d)) in rows[..n].iter().enumerate() {
         x.c[i] = c;
         x.t[i] = t;
         x.d[i] = d;

@@ -36,6 +36,7 @@ fn refused(rt: &impl Print) -> io::Result<()> {
     case(rt, falling(), &mut [9; 3])
 }
 
+#[tactic(auto, using(record::proofs::RoundTrip::written_fits))]
 fn back(rt: &impl Print, x: Table, b: &mut [u8]) -> io::Result<()> {
     let w = write(x, b);
     println!(rt; "write and read {} -> {}", Figures(&x), Read(read(&b[..w.length])))
