@@ -27,15 +27,25 @@ fn taken(rt: &impl Print) -> io::Result<()> {
 }
 
 fn count(rt: &impl Print) -> io::Result<()> {
-    let mut none = table_of(&[(1, 3, 3)]);
-    none.n = 0;
-    each(rt, &[Table::zeros(0), Table::zeros(17), none])
+    each(
+        rt,
+        &[
+            Table::zeros(0),
+            Table::zeros(17),
+            Table {
+                n: 0,
+                ..table_of(&[(1, 3, 3)])
+            },
+        ],
+    )
 }
 
 // Each way to break 1 ≤ C ≤ D ≤ T ≤ 4,096, and rows past n.
 fn rows(rt: &impl Print) -> io::Result<()> {
-    let mut second = table_of(&[(1, 3, 3), (1, 3, 3)]);
-    second.n = 1;
+    let second = Table {
+        n: 1,
+        ..table_of(&[(1, 3, 3), (1, 3, 3)])
+    };
     let mut last = table_of(&[(1, 3, 3)]);
     last.d[15] = 1;
     each(

@@ -2,9 +2,9 @@
 
 use record::Reading;
 use std::fmt;
-use table::{Table, Verdict, number_of, row_named};
+use table::{Row, Table, Verdict, number_of, row_named};
 
-/// The number of rows, and each row that is not zero with its own number: a row past the last is seen too.
+// The number of rows, and each row that is not zero with its own number: a row past the last is seen too.
 #[derive(Clone, Copy)]
 pub struct Figures<'a>(pub &'a Table);
 
@@ -12,16 +12,16 @@ impl fmt::Display for Figures<'_> {
     fn fmt<W: fmt::Write>(&self, f: &mut fmt::Formatter<W>) -> fmt::Result {
         write!(f, "{} rows", self.0.n)?;
         for i in 0..16 {
-            let row = self.0.row(i);
-            if (row.c, row.t, row.d) != (0, 0, 0) {
-                write!(f, " {}:{},{},{}", i + 1, row.c, row.t, row.d)?;
+            let Row { c, t, d } = self.0.row(i);
+            if (c, t, d) != (0, 0, 0) {
+                write!(f, " {}:{c},{t},{d}", i + 1)?;
             }
         }
         Ok(())
     }
 }
 
-/// A verdict's number and the row that it names.
+// A verdict's number and the row that it names.
 #[derive(Clone, Copy)]
 pub struct Said(pub Verdict);
 
@@ -31,7 +31,7 @@ impl fmt::Display for Said {
     }
 }
 
-/// What reading gave.
+// What reading gave.
 #[derive(Clone, Copy)]
 pub struct Read(pub Reading);
 
@@ -41,7 +41,7 @@ impl fmt::Display for Read {
     }
 }
 
-/// A space before each number, so that an empty list leaves none behind.
+// A space before each number, so that an empty list leaves none behind.
 #[derive(Clone, Copy)]
 pub struct Listed<'a, T>(pub &'a [T]);
 

@@ -39,7 +39,8 @@ fn refused(rt: &impl Print) -> io::Result<()> {
 #[tactic(auto, using(record::proofs::RoundTrip::written_fits))]
 fn back(rt: &impl Print, x: Table, b: &mut [u8]) -> io::Result<()> {
     let w = write(x, b);
-    println!(rt; "write and read {} -> {}", Figures(&x), Read(read(&b[..w.length])))
+    let (written, _) = b.split_at(w.length);
+    println!(rt; "write and read {} -> {}", Figures(&x), Read(read(written)))
 }
 
 pub fn all(rt: &impl Print) -> io::Result<()> {
