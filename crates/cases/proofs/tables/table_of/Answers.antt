@@ -17,5 +17,5 @@ loop-i-preserved c =
       get_or-take n rows i (0, 0, 0) within,
       padded_more (λ r. r.0) (0, 0, 0) i rows fits here,
       padded_more (λ r. r.1) (0, 0, 0) i rows fits here,
-      padded_more (λ r. r.2) (0, 0, 0) i rows fits here
+      padded_more (λ r. r.2) (0, 0, 0) i rows fits here,
     )
