@@ -1,12 +1,12 @@
 // Records read.
 
-use crate::shown::{Listed, Read};
+use crate::shown::{Listed, ReadAs};
 use record::read;
 use std::io;
 
 fn each(rt: &impl Print, records: &[&[u8]]) -> io::Result<()> {
     for s in records {
-        println!(rt; "read{} -> {}", Listed(s), Read(read(s)))?;
+        println!(rt; "read{} -> {}", Listed(s), ReadAs(read(s)))?;
     }
     Ok(())
 }

@@ -31,11 +31,11 @@ impl fmt::Display for Said {
     }
 }
 
-// What reading gave.
+// What a record is read as.
 #[derive(Clone, Copy)]
-pub struct Read(pub Reading);
+pub struct ReadAs(pub Reading);
 
-impl fmt::Display for Read {
+impl fmt::Display for ReadAs {
     fn fmt<W: fmt::Write>(&self, f: &mut fmt::Formatter<W>) -> fmt::Result {
         write!(f, "{}, {}", Said(self.0.verdict), Figures(&self.0.table))
     }

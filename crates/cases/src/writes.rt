@@ -1,6 +1,6 @@
 // Records written, and read back.
 
-use crate::shown::{Figures, Listed, Read, Said};
+use crate::shown::{Figures, Listed, ReadAs, Said};
 use crate::tables::{falling, first, full, table_of};
 use record::read;
 use std::io;
@@ -40,7 +40,11 @@ fn refused(rt: &impl Print) -> io::Result<()> {
 fn back(rt: &impl Print, x: Table, b: &mut [u8]) -> io::Result<()> {
     let w = write(x, b);
     let (written, _) = b.split_at(w.length);
-    println!(rt; "write and read {} -> {}", Figures(&x), Read(read(written)))
+    println!(rt;
+        "write and read {} -> {}",
+        Figures(&x),
+        ReadAs(read(written))
+    )
 }
 
 pub fn all(rt: &impl Print) -> io::Result<()> {
