@@ -1,18 +1,19 @@
 // The worked cases of document 01 that are run and compared: a line for each, with what was tried and what came of it.
-// A verdict is its number and the row that it names.
 
 #![tactic(auto)]
 
-mod records;
-mod say;
+mod allowances;
+mod forms;
+mod reads;
+mod shown;
 mod tables;
-mod tests;
+mod writes;
 
-use std::io::Result;
+use std::io;
 
-fn main(rt: HostRuntime) -> Result<()> {
-    tables::all(&rt)?;
-    records::reads(&rt)?;
-    records::writes(&rt)?;
-    tests::all(&rt)
+fn main(rt: HostRuntime) -> io::Result<()> {
+    forms::all(&rt)?;
+    reads::all(&rt)?;
+    writes::all(&rt)?;
+    allowances::all(&rt)
 }
