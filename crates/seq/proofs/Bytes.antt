@@ -2,17 +2,16 @@
 use mathlib.Core.Path.{◌≡◌, sym, refl, ap, ◌∙◌}
 use mathlib.Core.List.{List, [], ◌∷◌, ◌++◌}
 use Prim.Native.Nat.{ℕ, zero, suc, ◌+◌, ◌*◌, ◌/◌, ◌%◌, ◌<◌, ◌-◌, ◌≤◌, min}
-use native.Mathlib.Nat.{div-add-mod', add_assoc, add-zero}
+use native.Mathlib.Nat.{div-add-mod', add_assoc}
 use native.Mathlib.Numerals.{add-one}
 use native.Mathlib.Omega.{arith}
 use lib.ListN.{length, take, drop, set, take-append-drop}
-use lib.Seq.{get_or-take, get_or-drop, sets, get_or-append-add, drop-cons, set_out, length-sets, length-take-le, take_all, take-suc}
+use lib.Seq.{get_or-take, get_or-drop, sets, get_or-append-add, drop-cons, set_out, length-sets, length-take-le, take_all}
 use mathlib.Core.Bool.{Bool, true, false}
 use borrow.Author.Tests.{leb-true, leb-false}
 use lib.Dec.{leb}
 use Rattle.seq.specs.Places.{at}
 use Rattle.seq.specs.Bytes.{big_at, big_bytes, Bytes}
-use Rattle.seq.proofs.Places.{rest_part}
 
 -- in a part of a list, that starts at p
 pub big_part : (m p : ℕ) (l : List ℕ) (q : ℕ) → q + 1 < m → big_at (take m (drop p l)) q ≡ big_at l (p + q)
@@ -20,9 +19,6 @@ big_part m p l q h =
     rw (get_or-take m (drop p l) q 0 (omega arith), get_or-take m (drop p l) (q + 1) 0 h, get_or-drop p l q 0, get_or-drop p l (q + 1) 0, add_assoc p q 1)
 
 -- in the part that starts at p and has all that follows
-pub big_rest : (p : ℕ) (l : List ℕ) → big_at (take (length l - p) (drop p l)) 0 ≡ big_at l p
-big_rest p l = rw (rest_part p l, get_or-drop p l 0 0, get_or-drop p l (0 + 1) 0, add-zero p)
-
 -- behind a list that is p long
 pub big_behind : (s l : List ℕ) (q : ℕ) → big_at (s ++ l) (length s + q) ≡ big_at l q
 big_behind s l q =
@@ -34,11 +30,6 @@ sets_sets [] l b i j e = let k : j ≡ i = omega arith in rw k
 sets_sets (x ∷ a) l b i j e = sets_sets a (set l i x) b (suc i) j (omega arith)
 
 -- one more byte
-pub sets_more : (a l : List ℕ) (i n : ℕ) → n < length a → set (sets l i (take n a)) (i + n) (at a n) ≡ sets l i (take (n + 1) a)
-sets_more a l i n h =
-    rw (add-one n, take-suc a n 0 h) (sets_sets (take n a) l (at a n ∷ []) i (i + n) (rw (length-take-le n a (omega arith))))
-
--- past the end nothing is stored
 pub sets_past : (a l : List ℕ) (i : ℕ) → length l ≤ i → sets l i a ≡ l
 sets_past [] l i h = refl
 sets_past (x ∷ a) l i h = rw (set_out l i x h) (sets_past a l (suc i) (omega arith))

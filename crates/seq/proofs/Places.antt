@@ -2,12 +2,12 @@
 use mathlib.Core.Path.{◌≡◌, refl, sym, ap, ◌∙◌}
 use mathlib.Core.List.{List, [], ◌∷◌, ◌++◌}
 use mathlib.Core.Bool.{Bool, true, false, cond, ◌&&◌, and-true, and-false, and_assoc}
-use Prim.Native.Nat.{ℕ, zero, suc, ◌+◌, ◌≤◌, ◌<◌, min, ◌-◌}
+use Prim.Native.Nat.{ℕ, zero, suc, ◌+◌, ◌≤◌, ◌<◌, min}
 use native.Mathlib.Numerals.{add-one}
 use native.Mathlib.Omega.{arith}
 use native.Mathlib.Nat.{zero-min, min-zero, suc-min-suc}
-use lib.ListN.{length, get_or, set, replicate, take, drop, length-drop}
-use lib.Seq.{ext_get_or, take_all, take-nil}
+use lib.ListN.{length, get_or, set, replicate, take}
+use lib.Seq.{ext_get_or, take-nil}
 use Rattle.std.specs.Prelude.{Some}
 use Rattle.seq.specs.Places.{at, tab, over, lead, below, every}
 use Rattle.seq.proofs.Tests.{both_true}
@@ -130,10 +130,6 @@ module _ {A : Type 0} where
   over_one d (suc n) f [] r v h e g = refl
   over_one d (suc n) f (x ∷ l) zero v h e g = rw (e, ← over_same n (λ i. f (suc i)) l (λ i y h. g (suc i) y (λ q. omega arith)))
   over_one d (suc n) f (x ∷ l) (suc r) v h e g = rw (g 0 x (λ q. omega arith)) (ap (λ (k : List A). x ∷ k) (over_one d n (λ i. f (suc i)) l r v (omega arith) e (λ i y q. g (suc i) y (λ p. q (omega arith)))))
-
-  -- the part that starts at p and has all that follows
-  pub rest_part : (p : ℕ) (l : List A) → take (length l - p) (drop p l) ≡ drop p l
-  rest_part p l = take_all (length l - p) (drop p l) (rw (length-drop p l) (omega arith))
 
   -- the first i, of which there may be fewer
   pub take_most : (i n : ℕ) (l : List A) → n ≡ min i (length l) → take n l ≡ take i l

@@ -2,23 +2,10 @@
 
 #![tactic(auto)]
 
-ghost use Rattle.std.specs.Prelude.{◌≡◌, cond, ◌&&◌, ◌||◌, ◌-◌, ◌<◌, min};
+ghost use Rattle.std.specs.Prelude.{◌≡◌, cond};
 ghost use Rattle.seq.specs.Places.{at};
 ghost use Rattle.seq.specs.Words.{bit, top_of};
 ghost use Rattle.seq.specs.Bytes.{big_at};
-
-// Both tests are made, so that a chain of them has no branch and no fact to prove.
-pub fn both(a: bool, b: bool) -> bool
-    ensures { result ≡ (a && b) }
-{
-    a & b
-}
-
-pub fn either(a: bool, b: bool) -> bool
-    ensures { result ≡ (a || b) }
-{
-    a | b
-}
 
 // The byte at a place, 0 past the end.
 pub fn byte(s: &[u8], p: usize) -> u8
@@ -34,19 +21,6 @@ pub fn big(s: &[u8]) -> u16
     u16::from_be_bytes([byte(s, 0), byte(s, 1)])
 }
 
-// One less, and 0 stays.
-pub fn less(x: u16) -> u16
-    ensures { result ≡ x - 1 }
-{
-    x.saturating_sub(1)
-}
-
-pub fn lesser(a: usize, b: usize) -> usize
-    ensures { result ≡ min a b }
-{
-    a.min(b)
-}
-
 pub fn pick(on: bool, x: u16, y: u16) -> u16
     ensures { result ≡ cond on x y }
 {
@@ -58,7 +32,7 @@ pub fn pick(on: bool, x: u16, y: u16) -> u16
 pub fn has(w: u16, i: usize) -> bool
     ensures { result ≡ bit w i }
 {
-    if i < 16 { (w >> i) % 2 == 1 } else { false }
+    i < 16 && (w >> i) % 2 == 1
 }
 
 // All bits from there on are 0: a walk over the set bits need go no further.
