@@ -2,17 +2,16 @@
 
 #![tactic(auto)]
 
-ghost use Rattle.std.specs.Prelude.{◌≡◌, ◌+◌, ◌*◌, ◌-◌, ◌≤◌};
+ghost use Rattle.std.specs.Prelude.{◌≡◌, ◌+◌, ◌*◌, ◌-◌, ◌≤◌, ◌<◌};
 ghost use Rattle.seq.specs.Places.{at};
 ghost use Rattle.law.specs.Sums.{ceil};
 ghost use Rattle.law.specs.Work.{W};
 ghost use Rattle.law.specs.Slack.{slack};
 ghost use Rattle.table.specs.Verdicts.{granted};
-ghost use Rattle.table.specs.WellFormed.{WellFormed};
 ghost use Rattle.allowance.specs.Row.{room_of};
-ghost use Rattle.allowance.specs.InForm.{Sized, InForm};
 ghost use Rattle.allowance.specs.Test.{lacks_verdict, allowances, smallest, test_verdict, test_of};
 
+use table::formed::Formed;
 use table::{Refusal, Table, Verdict};
 
 // k is the smallest of the allowances, `each` has them all. Zero where the table is refused.
@@ -33,24 +32,24 @@ fn share(c: u16, t: u16, m: u64) -> u64
 }
 
 // What the rows before i need in m slots.
-fn work(x: &Table, i: usize, m: u64) -> u64
-    requires { Sized x.now.c x.now.t i × (m ≤ 4096) }
-    ensures { (result ≡ W (at x.now.c) (at x.now.t) i m) × (result ≤ 536805376) }
+fn work(x: &Formed, i: usize, m: u64) -> u64
+    requires { (i ≤ x.now.table.n) × (m ≤ 4096) }
+    ensures { (result ≡ W (at x.now.table.c) (at x.now.table.t) i m) × (result ≤ 536805376) }
 {
     let mut w: u64 = 0;
     for h in 0..i {
-        w += share(x.c[h], x.t[h], m);
+        w += share(x.table.c[h], x.table.t[h], m);
     }
     w
 }
 
 // One more than the largest number that row i holds; 0 if it does not hold 0.
-fn slack_of(x: &Table, i: usize) -> u64
-    requires { InForm x.now.c x.now.t i (at x.now.d i) }
-    ensures { result ≡ slack (at x.now.c) (at x.now.t) i (at x.now.d i) }
+fn slack_of(x: &Formed, i: usize) -> u64
+    requires { i < x.now.table.n }
+    ensures { result ≡ slack (at x.now.table.c) (at x.now.table.t) i (at x.now.table.d i) }
 {
-    let need = u64::from(x.c[i]);
-    let due = u64::from(x.d[i]);
+    let need = u64::from(x.table.c[i]);
+    let due = u64::from(x.table.d[i]);
     let mut s: u64 = 0;
     for before in 0..due {
         let m = before + 1;
@@ -61,9 +60,9 @@ fn slack_of(x: &Table, i: usize) -> u64
 }
 
 // The largest number that row i holds, if it holds 0.
-fn row_room(x: &Table, i: usize) -> Option<u16>
-    requires { InForm x.now.c x.now.t i (at x.now.d i) }
-    ensures { result ≡ room_of x.now.c x.now.t i (at x.now.d i) }
+fn row_room(x: &Formed, i: usize) -> Option<u16>
+    requires { i < x.now.table.n }
+    ensures { result ≡ room_of x.now.table.c x.now.table.t i (at x.now.table.d i) }
 {
     let s = slack_of(x, i);
     if s == 0 {
@@ -73,12 +72,11 @@ fn row_room(x: &Table, i: usize) -> Option<u16>
 }
 
 // The allowances of all rows, or the first row that does not hold 0.
-fn row_rooms(x: &Table) -> Result<[u16; 16], Refusal>
-    requires { WellFormed x.now.n x.now.c x.now.t x.now.d }
-    ensures { result ≡ granted (lacks_verdict x.now) (allowances x.now) }
+fn row_rooms(x: &Formed) -> Result<[u16; 16], Refusal>
+    ensures { result ≡ granted (lacks_verdict x.now.table) (allowances x.now.table) }
 {
     let mut each = [0; 16];
-    for i in 0..x.n {
+    for i in 0..x.table.n {
         let Some(k) = row_room(x, i) else {
             return Err(Refusal::RowLacks(i + 1));
         };
@@ -101,18 +99,18 @@ fn least(each: &[u16; 16], n: usize) -> u16
 }
 
 // The allowances, or the first of 4, 5, 6 and 7.
-#[tactic(auto, using(crate::proofs::Tests::taken_well), unfolding(crate::specs::Test::test_verdict))]
-fn allowed(x: &Table) -> Result<[u16; 16], Refusal>
-    ensures { result ≡ granted (test_verdict x.now) (allowances x.now) }
+#[tactic(auto, unfolding(crate::specs::Test::test_verdict))]
+fn allowed(x: Table) -> Result<[u16; 16], Refusal>
+    ensures { result ≡ granted (test_verdict x) (allowances x) }
 {
-    x.form()?;
-    row_rooms(x)
+    let formed = x.formed()?;
+    row_rooms(&formed)
 }
 
 pub fn test(x: Table) -> Tested
     ensures { result ≡ test_of x }
 {
-    match allowed(&x) {
+    match allowed(x) {
         Ok(each) => Tested {
             verdict: Ok(()),
             k: least(&each, x.n),

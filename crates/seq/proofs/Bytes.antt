@@ -29,7 +29,7 @@ pub sets_sets : (a l b : List ℕ) (i j : ℕ) → j ≡ i + length a → sets (
 sets_sets [] l b i j e = let k : j ≡ i = omega arith in rw k
 sets_sets (x ∷ a) l b i j e = sets_sets a (set l i x) b (suc i) j (omega arith)
 
--- one more byte
+-- past the end nothing is stored
 pub sets_past : (a l : List ℕ) (i : ℕ) → length l ≤ i → sets l i a ≡ l
 sets_past [] l i h = refl
 sets_past (x ∷ a) l i h = rw (set_out l i x h) (sets_past a l (suc i) (omega arith))

@@ -5,6 +5,8 @@ use Rattle.table.proofs.number_of.Reads as number
 use Rattle.table.proofs.row_named.Reads as row_named
 use Rattle.table.proofs.refuse.Reads as refuse
 use Rattle.table.proofs.Table.form.Reads as form
+use Rattle.table.specs.Formed.{tables_of}
+use Rattle.table.proofs.Table.formed.Reads as formed
 use Rattle.table.proofs.Table.zeros.Reads as zeros
 use Rattle.table.proofs.Table.row.Reads as row
 use Rattle.table.proofs.Refusal.number.Reads as number_in
@@ -33,3 +35,7 @@ row_in_one = one_outcome row_in.Post _ _ (λ κs a x s p. p)
 
 row_one : OneOutcome row.Post (λ κs x s. x)
 row_one = one_outcome row.Post _ _ (λ κs a x s p. p)
+
+-- a table's own type is no more than its table
+formed_one : OneOutcome formed.Post (λ κs x s. tables_of x)
+formed_one = one_outcome formed.Post _ _ (λ κs a x s p. p)

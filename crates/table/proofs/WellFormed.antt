@@ -10,12 +10,13 @@ use borrow.Author.Tests.{ltb-true, ltb-false, leb-true, leb-false, eqb-true, eqb
 use Rattle.seq.specs.Places.{at}
 use Rattle.seq.proofs.Tests.{both_true, either_true, either_false, true_false, no_true}
 use Rattle.seq.proofs.Places.{lead_most, lead_before, lead_stop, lead_is, lead_full}
+use Rattle.table.specs.declared.Table.{Table}
 use Rattle.table.specs.Refusals.{FormSays}
 use Rattle.table.specs.Refusals.FormSays.{count, row, period, well}
 use Rattle.std.specs.Prelude.{Err}
 use Rattle.table.specs.declared.Refusal.TheVariants.{RowCount, RowUnsound, PeriodFalls}
 use Rattle.table.specs.Verdicts.{Verdict, Taken, refuse, ◌and_then◌}
-use Rattle.table.specs.Form.{in_order, all_zero, sound, unsound_row, rising, falling_row, count_verdict, rows_verdict, periods_verdict, form_verdict}
+use Rattle.table.specs.Form.{in_order, all_zero, sound, unsound_row, rising, falling_row, count_verdict, rows_verdict, periods_verdict, form_verdict, form_of}
 use Rattle.table.specs.WellFormed.{Ordered, Zero, Counted, Sound, WellFormed}
 use Rattle.table.proofs.Verdicts.{and_taken, refuse_taken}
 
@@ -210,3 +211,9 @@ count_taken n e = counted_is n (refuse_taken (eqb n 0 || ltb 16 n) RowCount e)
 
 pub taken_few : (n : ℕ) (c t d : List ℕ) → form_verdict n c t d ≡ Taken → n ≤ 16
 taken_few n c t d e = (count_taken n (form_parts n c t d e).0).1
+
+pub taken_row : (x : Table) → form_of x ≡ Taken → (i : ℕ) → i < x.n → Ordered (at x.c i) (at x.t i) (at x.d i)
+taken_row x e = ((taken_iff x.n x.c x.t x.d).0 e).ordered
+
+pub taken_some : (x : Table) → form_of x ≡ Taken → 1 ≤ x.n
+taken_some x e = ((taken_iff x.n x.c x.t x.d).0 e).counted.0

@@ -3,3 +3,4 @@ pub mod Form
 pub mod WellFormed
 pub mod Refusals
 pub mod Theorems
+pub mod Formed

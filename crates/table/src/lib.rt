@@ -2,10 +2,15 @@
 
 #![tactic(auto)]
 
+pub mod formed;
+
 ghost use Rattle.std.specs.Prelude.{◌≡◌, cond, min, replicate};
 ghost use Rattle.seq.specs.Places.{at, below};
-ghost use Rattle.table.specs.Verdicts.{number, row, number_of, row_named, refuse};
+ghost use Rattle.table.specs.Verdicts.{number, row, number_of, row_named, refuse, granted};
+ghost use Rattle.table.specs.Formed.{tables_of};
 ghost use Rattle.table.specs.Form.{in_order, all_zero, sound, unsound_row, falling_row, count_verdict, rows_verdict, periods_verdict, form_of};
+
+use formed::Formed;
 
 // Rows in priority order: C slots in each period of T, by the deadline D. Those past n are zero.
 #[repr(C)]
@@ -218,5 +223,14 @@ impl Table {
         count_verdict(self.n)?;
         self.rows_verdict()?;
         self.periods_verdict()
+    }
+
+    // The table as one that is well formed, or the first of 4, 5 and 6.
+    #[tactic(auto, using(crate::proofs::WellFormed::taken_some, crate::proofs::WellFormed::taken_few))]
+    pub fn formed(self) -> Result<Formed, Refusal>
+        ensures { tables_of result ≡ granted (form_of self) self }
+    {
+        self.form()?;
+        Ok(Formed { table: self })
     }
 }

@@ -5,7 +5,7 @@ use Rattle.std.specs.Prelude.{Ok}
 use Rattle.seq.specs.Places.{at, over}
 use Rattle.seq.proofs.Places.{lead_most, lead_miss, lead_hit, over_more}
 use Rattle.allowance.specs.Test.{lacking_row, lacks_verdict, allowances}
-use Rattle.allowance.proofs.Row.{row_in_form, nothing_held, most_held}
+use Rattle.allowance.proofs.Row.{none_held, some_held}
 use Rattle.allowance.proofs.Tests.{zero_held}
 use Rattle.allowance.proofs.row_rooms.Goals as goal
 
@@ -13,33 +13,28 @@ pub loop-i-init : goal.loop-i-init
 unfolding over
 loop-i-init c = (omega arith, refl)
 
-pub row_room-requires : goal.row_room-requires
-row_room-requires c =
-    let x = c.args.x.now in
-    row_in_form x.n x.c x.t x.d c.requires c.loop-i.i (omega arith)
-
 pub returns-in_default : goal.returns-in_default
 unfolding lacks_verdict lacking_row
 returns-in_default c =
     let l = c.loop-i in
-    let x = c.args.x.now in
+    let x = c.args.x.now.table in
     let h : l.i < x.n = omega arith in
-    let e = nothing_held x.c x.t l.i (at x.d l.i) (sym c.row_room.ensures ∙ c.in_default.is) in
+    let e = none_held x.c x.t l.i (at x.d l.i) (sym c.row_room.ensures ∙ c.in_default.is) in
     rw (lead_hit x.n (zero_held x) l.i h e l.invariant.0, lt-ltb l.i x.n h, add-one)
 
 pub loop-i-preserved : goal.loop-i-preserved
 unfolding lacking_row
 loop-i-preserved c =
     let l = c.loop-i in
-    let x = c.args.x.now in
-    let e = most_held x.c x.t l.i (at x.d l.i) c.in-Some.k (sym c.row_room.ensures ∙ c.in-Some.is) in
+    let x = c.args.x.now.table in
+    let e = some_held x.c x.t l.i (at x.d l.i) c.in-Some.k (sym c.row_room.ensures ∙ c.in-Some.is) in
     (omega (arith, lead_miss x.n (zero_held x) l.i (omega arith) e.0 l.invariant.0), over_more 0 l.i _ _ _ _ l.invariant.1 e.1)
 
 pub returns : goal.returns
 unfolding lacks_verdict lacking_row allowances
 returns c =
     let l = c.loop-i in
-    let x = c.args.x.now in
+    let x = c.args.x.now.table in
     let n : l.i ≡ x.n = omega arith in
     let e : lacking_row x.c x.t x.d x.n ≡ x.n = omega (arith, lead_most x.n (zero_held x), l.invariant.0) in
     rw (e, le-ltb x.n x.n (omega arith)) (ap Ok (rw n at l.invariant.1))
