@@ -1,5 +1,7 @@
 -- Cases of document 01 that a run decides.
-use Rattle.std.specs.Prelude.{◌≡◌, List, [], ◌∷◌, ◌++◌, ℕ, replicate}
+use Rattle.std.specs.Prelude.{◌≡◌, Err, List, [], ◌∷◌, ◌++◌, ℕ, replicate}
+use Rattle.table.specs.declared.Refusal.TheVariants.{QueueFull}
+use Rattle.table.specs.Verdicts.{Taken}
 use Rattle.engine.specs.declared.State.{State}
 use Rattle.engine.specs.declared.Summed.{Summed}
 use Rattle.uses.specs.declared.Use.{Use}
@@ -8,7 +10,7 @@ use Rattle.engine.specs.States.{tally}
 use Rattle.engine.specs.Calls.{late_total_of}
 use Rattle.allowance.specs.Cases.{table_of}
 use Rattle.engine.specs.Start.{start_of}
-use Rattle.engine_runs.specs.Runs.{slot, lost_slot, request, Said, answer, number, Run, run}
+use Rattle.engine_runs.specs.Runs.{slot, lost_slot, request, Said, answer, verdict, Run, run}
 
 -- the start of a table of these rows, as C, T, D
 abbrev started : List (ℕ × ℕ × ℕ) → State
@@ -16,10 +18,10 @@ started l = (start_of (table_of l)).state
 
 -- a slot was run, and no row was late
 abbrev used : Use → Said
-used u = answer (record { number = 0; used = u; word = 0; late = 0 })
+used u = answer (record { verdict = Taken; used = u; word = 0; late = 0 })
 
 abbrev total_is : ℕ → Summed
-total_is n = record { number = 0; total = n }
+total_is n = record { verdict = Taken; total = n }
 
 -- (1,3,3) (1,4,4) (1,6,6): the listing
 abbrev listing : Run
@@ -49,7 +51,7 @@ pub record Cases : Type 0 where
       ∷ used (Hard 3)
       ∷ used (Hard 1)
       ∷ used (Hard 2)
-      ∷ number 0
+      ∷ verdict Taken
       ∷ used (Given 7)
       ∷ used (Given 7)
       ∷ used (Hard 1)
@@ -63,7 +65,7 @@ pub record Cases : Type 0 where
   -- the first given slot is 15
   pub tight_says :
       tight.says
-      ≡ number 0
+      ≡ verdict Taken
       ∷ used (Hard 1)
       ∷ used (Hard 1)
       ∷ used (Hard 2)
@@ -80,8 +82,8 @@ pub record Cases : Type 0 where
       ∷ used (Hard 1)
       ∷ used (Given 7)
       ∷ []
-  pub short_says : short.says ≡ answer (record { number = 0; used = Lost; word = 1; late = 1 }) ∷ []
+  pub short_says : short.says ≡ answer (record { verdict = Taken; used = Lost; word = 1; late = 1 }) ∷ []
   pub short_total : late_total_of short.end ≡ total_is 1
   pub long_total : late_total_of long.end ≡ total_is 260
-  -- the 33rd finds no place; after one has finished there is one
-  pub full_says : full.says ≡ replicate 32 (number 0) ++ number 9 ∷ used (Given 7) ∷ number 0 ∷ []
+  -- the 33rd finds no place, refusal 9; after one has finished there is one
+  pub full_says : full.says ≡ replicate 32 (verdict Taken) ++ verdict (Err QueueFull) ∷ used (Given 7) ∷ verdict Taken ∷ []

@@ -1,5 +1,6 @@
 -- A run: what the engine says to events one after another, and the state that it ends in.
 use Rattle.std.specs.Prelude.{ℕ, List, [], ◌∷◌, true, false}
+use Rattle.table.specs.Verdicts.{Verdict}
 use Rattle.engine.specs.declared.State.{State}
 use Rattle.engine.specs.declared.Answer.{Answer}
 use Rattle.engine.specs.declared.Slotted.{Slotted}
@@ -12,10 +13,10 @@ pub data Event : Type 0 where
   lost_slot : Event
   request : ℕ → ℕ → Event
 
--- to a slot its answer, to a request its number
+-- to a slot its answer, to a request its verdict
 pub data Said : Type 0 where
   answer : Answer → Said
-  number : ℕ → Said
+  verdict : Verdict → Said
 
 pub record Turn : Type 0 where
   pub state : State
@@ -25,7 +26,7 @@ abbrev slot_turn : Slotted → Turn
 slot_turn r = record { state = r.state; said = answer r.answer }
 
 abbrev request_turn : Requested → Turn
-request_turn r = record { state = r.state; said = number r.number }
+request_turn r = record { state = r.state; said = verdict r.verdict }
 
 abbrev pub turn : State → Event → Turn
 turn s slot = slot_turn (slot_of s false)

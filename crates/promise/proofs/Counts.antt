@@ -15,7 +15,7 @@ use Rattle.marks.specs.Words.{late_word}
 use Rattle.late.specs.Late.{total}
 use Rattle.marks.proofs.Points.{late_past}
 use Rattle.table.specs.declared.Table.{Table}
-use Rattle.table.specs.declared.Verdict.TheVariants.{Taken}
+use Rattle.table.specs.Verdicts.{Taken}
 use Rattle.table.specs.WellFormed.{WellFormed}
 use Rattle.allowance.specs.Test.{test_of}
 use Rattle.allowance.proofs.Tests.{taken_well, verdict_form}
@@ -94,7 +94,7 @@ module _ (x : Table) (a : (test_of x).verdict ≡ Taken) (calls : List Call) whe
   pub late_run : (i : ℕ) → i < x.n → at end.late i ≡ late_of_row x h i
   late_run i r = rw (last_moment calls (begun x k)) at (lane_count ordered (lane x k calls) i r)
 
-  total_run : late_total_of end ≡ record { number = 0; total = sum (late_of_row x h) x.n }
+  total_run : late_total_of end ≡ record { verdict = Taken; total = sum (late_of_row x h) x.n }
   unfolding late_total_of
   total_run =
       let n : x.n + (16 - x.n) ≡ 16 = omega (arith, ordered.counted.1) in

@@ -1,26 +1,26 @@
 -- Each statement of specs/Demands.antt holds. Assumes nothing.
-use mathlib.Core.Path.{◌≡◌, refl, ap, sym, ◌∙◌}
-use mathlib.Core.List.{[], ◌∷◌}
-use mathlib.Core.Bool.{Bool, true, false, cond}
-use Prim.Native.Nat.{ℕ, zero, suc}
+use mathlib.Core.Path.{◌≡◌, refl, sym, ◌∙◌}
+use mathlib.Core.List.{[]}
+use mathlib.Core.Bool.{Bool, true, false}
+use Prim.Native.Nat.{ℕ, suc}
 use native.Mathlib.Omega.{arith}
-use lib.Dec.{eqb, leb, eqb-suc-zero}
+use lib.Dec.{eqb, leb}
+use Rattle.std.specs.Prelude.{Ok, Err}
 use Rattle.table.specs.declared.Table.{Table}
-use Rattle.table.specs.declared.Verdict.TheVariants.{Taken}
+use Rattle.table.specs.declared.Refusal.TheVariants.{SizeZero, QueueFull, RunOver, StateIllegal}
+use Rattle.table.specs.Verdicts.{Verdict, Taken, refuse, ◌and_then◌}
 use Rattle.allowance.specs.Test.{test_of}
 use Rattle.allowance.proofs.Tests.{taken_well, verdict_form, each_is, k_met}
 use Rattle.engine.specs.Start.{begun, start_of}
 use Rattle.engine.specs.declared.State.{State}
-use Rattle.engine.specs.declared.Slotted.{Slotted}
-use Rattle.engine.specs.declared.Requested.{Requested}
 use Rattle.legal.specs.Legal.{last_slot}
 use Rattle.engine.specs.Legal.{legal}
-use Rattle.engine.specs.Slot.{slot_refusal, slot_of, answered}
-use Rattle.engine.specs.Calls.{request_refusal, request_of}
+use Rattle.engine.specs.Slot.{slot_verdict, slot_of, answered}
+use Rattle.engine.specs.Calls.{request_verdict, request_of}
 use Rattle.promise.specs.Runs.{Call, slot, request, step, said, run_of, history}
 use Rattle.promise.specs.History.{NoneLost}
 use Rattle.promise.specs.Demands.{Starts, Demand2, ByTheRules, Demand3a, NeverLate, Demand3b, Untouched, Demand1, LegalStays, NeverEleven}
-use Rattle.promise.proofs.Trail.{slot_run, slot_refused, request_run, request_refused, trail}
+use Rattle.promise.proofs.Trail.{trail}
 use Rattle.promise.proofs.Legal.{run_legal, start_legal}
 use Rattle.promise.proofs.Counts.{counted_run, flagged_run}
 use Rattle.promise.proofs.Safe.{in_time, spared_all, words_zero}
@@ -60,54 +60,45 @@ untouched : (s : State) (x : Call) → step s x ≡ s → said s x ≡ [] → Un
 unfolding run_of history
 untouched s x e f = record { state = e; nothing = f; run_on = λ calls. rw e; told_on = λ calls. rw (e, f) }
 
--- the numbers given back
-slot_number : (s : State) (lost : Bool) (r : ℕ) → slot_refusal s lost ≡ r → (slot_of s lost).answer.number ≡ r
-unfolding answered
-slot_number s lost zero e = ap (λ (q : Slotted). q.answer.number) (slot_run s lost e)
-slot_number s lost (suc r) e = ap (λ (q : Slotted). q.answer.number) (slot_refused s lost r e)
+-- the verdict that a slot gives back
+slot_gives : (s : State) (lost : Bool) (v : Verdict) → slot_verdict s lost ≡ v → (slot_of s lost).answer.verdict ≡ v
+unfolding slot_of answered
+slot_gives s lost (Ok u) e = rw e
+slot_gives s lost (Err why) e = rw e
 
-request_number : (s : State) (name size r : ℕ) → request_refusal s name size ≡ r → (request_of s name size).number ≡ r
-request_number s name size zero e = ap (λ (q : Requested). q.number) (request_run s name size e)
-request_number s name size (suc r) e = ap (λ (q : Requested). q.number) (request_refused s name size r e)
+slot_gave : (s : State) (lost : Bool) {v : Verdict} → (slot_of s lost).answer.verdict ≡ v → slot_verdict s lost ≡ v
+slot_gave s lost e = sym (slot_gives s lost (slot_verdict s lost) refl) ∙ e
 
 pub demand1 : Demand1
-unfolding step said
+unfolding step said slot_of request_of
 demand1 s = (
-  λ lost number e.
-      let y = slot_refused s lost number (sym (slot_number s lost (slot_refusal s lost) refl) ∙ e) in (
-        untouched s (slot lost) (ap (λ (q : Slotted). q.state) y)
-            (ap (λ (q : Slotted). cond (eqb q.answer.number 0) (q.answer ∷ []) []) y ∙ rw (eqb-suc-zero number)),
-        ap (λ (q : Slotted). q.answer) y,
-      ),
-  λ name size number e.
-      let y = request_refused s name size number (sym (request_number s name size (request_refusal s name size) refl) ∙ e) in
-      untouched s (request name size) (ap (λ (q : Requested). q.state) y) refl,
+  λ lost why e. let y = slot_gave s lost e in (untouched s (slot lost) (rw (step, y)) (rw (said, y)), rw y),
+  λ name size why e. untouched s (request name size) (rw (step, e)) refl,
 )
 
 pub legal_stays : LegalStays
 legal_stays = run_legal
 
 -- a legal state is not refused as one that is not
-no_eleven : (s : State) → legal s ≡ true → ((lost : Bool) → slot_refusal s lost ≡ 11 → ⊥) × ((name size : ℕ) → request_refusal s name size ≡ 11 → ⊥)
-unfolding slot_refusal request_refusal
+no_eleven : (s : State) → legal s ≡ true → ((lost : Bool) → slot_verdict s lost ≡ Err StateIllegal → ⊥) × ((name size : ℕ) → request_verdict s name size ≡ Err StateIllegal → ⊥)
+unfolding slot_verdict request_verdict
 no_eleven s l = (
   λ lost e. ten (eqb s.next (suc last_slot)) (rw l at e),
   λ name size e. nine (eqb size 0) (leb 32 s.count) (rw l at e),
 )
   where
-    ten : (b : Bool) → ◌≡◌ {A = ℕ} (cond b 10 0) 11 → ⊥
-    ten true e = omega arith
-    ten false e = omega arith
+    ten : (b : Bool) → refuse b RunOver ≡ Err StateIllegal → ⊥
+    ten true e = cc
+    ten false e = cc
 
-    nine : (b c : Bool) → ◌≡◌ {A = ℕ} (cond b 8 (cond c 9 0)) 11 → ⊥
-    nine true c e = omega arith
-    nine false true e = omega arith
-    nine false false e = omega arith
+    nine : (b c : Bool) → refuse b SizeZero and_then refuse c QueueFull ≡ Err StateIllegal → ⊥
+    nine true c e = cc
+    nine false true e = cc
+    nine false false e = cc
 
 pub never_eleven : NeverEleven
+unfolding request_of
 never_eleven x e calls =
     let s : State = run_of (start_of x).state calls in
-    let y = no_eleven s (run_legal (start_of x).state (rw (start_is x e) (start_legal x (passes x e))) calls) in (
-      λ lost f. y.0 lost (sym (slot_number s lost (slot_refusal s lost) refl) ∙ f),
-      λ name size f. y.1 name size (sym (request_number s name size (request_refusal s name size) refl) ∙ f),
-    )
+    let y = no_eleven s (run_legal (start_of x).state (rw (start_is x e) (start_legal x (passes x e))) calls) in
+    (λ lost f. y.0 lost (slot_gave s lost f), y.1)

@@ -2,20 +2,19 @@
 use mathlib.Core.Path.{◌≡◌, refl}
 use mathlib.Core.List.{List, [], ◌∷◌}
 use mathlib.Core.Bool.{Bool, true, false, cond, ◌&&◌, not}
-use Prim.Native.Nat.{ℕ, zero, suc, ◌+◌, ◌-◌, ◌≤◌, ◌<◌, min}
+use Prim.Native.Nat.{ℕ, suc, ◌+◌, ◌-◌, ◌≤◌, ◌<◌, min}
 use native.Mathlib.Omega.{arith}
 use native.Mathlib.Decide.{dec_lt}
 use lib.Dec.{ltb, leb}
 use lib.ListN.{length, replicate}
 use borrow.Author.Tests.{le-leb, lt-ltb, ltb-true, le-ltb}
+use Rattle.std.specs.Prelude.{Ok, Err}
 use Rattle.seq.specs.Places.{flag, at}
 use Rattle.seq.specs.Words.{bit}
 use Rattle.seq.proofs.Tests.{both_true}
 use Rattle.seq.proofs.Places.{at_zeros, every_at, every_true, tab_length, tab_at}
 use Rattle.table.specs.declared.Table.{Table}
-use Rattle.table.specs.declared.Verdict.{Verdict}
-use Rattle.table.specs.declared.Verdict.TheVariants.{Taken, Refused}
-use Rattle.table.specs.Verdicts.{taken}
+use Rattle.table.specs.Verdicts.{Verdict, Taken, taken}
 use Rattle.table.proofs.WellFormed.{taken_iff}
 use Rattle.allowance.specs.Test.{test_of}
 use Rattle.allowance.proofs.Tests.{taken_well, verdict_form, each_small, each_past}
@@ -34,15 +33,14 @@ use Rattle.engine.specs.States.{queue, with_figures}
 use Rattle.engine.specs.Start.{blank, begun}
 use Rattle.engine.specs.Legal.{ran, legal}
 use Rattle.uses.specs.Uses.{is_give, row_served, is_hard, is_given, is_empty, is_lost}
-use Rattle.engine.specs.Slot.{left_released, left_used, lates, left_judged, counter₁, choice_of, use_of, late_of, settled, slot_refusal, slot_of}
-use Rattle.engine.specs.Calls.{request_refusal, joined, request_of}
+use Rattle.engine.specs.Slot.{left_released, left_used, lates, left_judged, counter₁, choice_of, use_of, late_of, settled, slot_verdict, slot_of}
+use Rattle.engine.specs.Calls.{request_verdict, joined, request_of}
 use Rattle.engine.proofs.Legality.{Legal, legal_says, legal_is, slot_legal, request_legal}
 use Rattle.promise.specs.Runs.{Call, slot, request, step, run_of}
-use Rattle.promise.proofs.Trail.{slot_run, slot_refused, request_run, request_refused}
 
 taken_is : (v : Verdict) → taken v true false ≡ true → v ≡ Taken
-taken_is Taken e = refl
-taken_is (Refused number row) e = cc
+taken_is (Ok u) e = refl
+taken_is (Err why) e = cc
 
 -- what the test says of the tallies, and of late counts past the rows
 pub tallies_legal : (s : State) → legal s ≡ true → s.hard + s.given + s.empty + s.lost ≡ ran s
@@ -125,11 +123,12 @@ module _ (s : State) (lost : Bool) (p : Legal s) where
         queue = served_proper s p.queue (is_given (use_of s lost));
       }
 
-slot_keeps : (s : State) (lost : Bool) (r : ℕ) → slot_refusal s lost ≡ r → legal s ≡ true → legal (slot_of s lost).state ≡ true
-slot_keeps s lost zero e l =
+slot_keeps : (s : State) (lost : Bool) (v : Verdict) → slot_verdict s lost ≡ v → legal s ≡ true → legal (slot_of s lost).state ≡ true
+unfolding slot_of
+slot_keeps s lost (Ok u) e l =
     let y = slot_legal s lost e in
-    rw (slot_run s lost e) (legal_is (settled s lost) (settled_parts s lost y.0 y.1))
-slot_keeps s lost (suc r) e l = rw (slot_refused s lost r e) l
+    rw e (legal_is (settled s lost) (settled_parts s lost y.0 y.1))
+slot_keeps s lost (Err why) e l = rw e l
 
 joined_parts : (s : State) (name size : ℕ) → Legal s → 1 ≤ size → s.count < 32 → Legal (joined s name size)
 unfolding joined with_figures waiting
@@ -146,16 +145,17 @@ joined_parts s name size p g m =
           (let n : length (queue s) ≡ min s.count 32 = tab_length (min s.count 32) _ in omega arith) g;
     }
 
-request_keeps : (s : State) (name size r : ℕ) → request_refusal s name size ≡ r → legal s ≡ true → legal (request_of s name size).state ≡ true
-request_keeps s name size zero e l =
+request_keeps : (s : State) (name size : ℕ) (v : Verdict) → request_verdict s name size ≡ v → legal s ≡ true → legal (request_of s name size).state ≡ true
+unfolding request_of
+request_keeps s name size (Ok u) e l =
     let y = request_legal s name size e in
-    rw (request_run s name size e) (legal_is (joined s name size) (joined_parts s name size y.0 y.1 y.2))
-request_keeps s name size (suc r) e l = rw (request_refused s name size r e) l
+    rw e (legal_is (joined s name size) (joined_parts s name size y.0 y.1 y.2))
+request_keeps s name size (Err why) e l = rw e l
 
 pub step_legal : (s : State) (x : Call) → legal s ≡ true → legal (step s x) ≡ true
 unfolding step
-step_legal s (slot lost) l = slot_keeps s lost (slot_refusal s lost) refl l
-step_legal s (request name size) l = request_keeps s name size (request_refusal s name size) refl l
+step_legal s (slot lost) l = slot_keeps s lost (slot_verdict s lost) refl l
+step_legal s (request name size) l = request_keeps s name size (request_verdict s name size) refl l
 
 pub run_legal : (s : State) → legal s ≡ true → (calls : List Call) → legal (run_of s calls) ≡ true
 unfolding run_of

@@ -21,7 +21,7 @@ use Rattle.law.proofs.Laws.{row_promise}
 use Rattle.rows.specs.Rows.{rows_of, idle, reloaded}
 use Rattle.rows.proofs.Points.{reloaded_at, charged_at}
 use Rattle.table.specs.declared.Table.{Table}
-use Rattle.table.specs.declared.Verdict.TheVariants.{Taken}
+use Rattle.table.specs.Verdicts.{Taken}
 use Rattle.table.specs.WellFormed.{WellFormed}
 use Rattle.allowance.specs.Test.{test_of}
 use Rattle.allowance.proofs.Tests.{taken_well, verdict_form, each_holds}

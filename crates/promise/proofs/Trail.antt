@@ -2,21 +2,19 @@
 -- in the state that this one left, but for requests that came between.
 use mathlib.Core.Path.{◌≡◌, refl, ap, ◌∙◌}
 use mathlib.Core.List.{List, [], ◌∷◌}
-use mathlib.Core.Bool.{Bool, cond}
+use mathlib.Core.Bool.{Bool}
 use Prim.Native.Nat.{ℕ, zero, suc, ◌-◌, ◌<◌}
 use native.Mathlib.Nat.{sub-zero}
 use native.Mathlib.Omega.{arith}
-use lib.Dec.{eqb, eqb-suc-zero}
 use lib.ListN.{length}
 use borrow.Author.Tests.{le-ltb}
+use Rattle.std.specs.Prelude.{Ok, Err}
+use Rattle.table.specs.Verdicts.{Verdict}
 use Rattle.engine.specs.declared.State.{State}
 use Rattle.engine.specs.declared.Answer.{Answer}
-use Rattle.engine.specs.declared.Slotted.{Slotted}
-use Rattle.engine.specs.declared.Requested.{Requested}
-use Rattle.uses.specs.declared.Use.TheVariants.{Empty}
 use Rattle.engine.specs.States.{with_figures}
-use Rattle.engine.specs.Slot.{slot_of, slot_refusal, settled, answered}
-use Rattle.engine.specs.Calls.{request_of, request_refusal, joined}
+use Rattle.engine.specs.Slot.{slot_of, slot_verdict, settled, answered}
+use Rattle.engine.specs.Calls.{request_of, request_verdict, joined}
 use Rattle.promise.specs.Runs.{Call, slot, request, step, said, run_of, history, Moment, is_lost_call, moment}
 use Rattle.promise.specs.History.{answer_at}
 
@@ -47,41 +45,19 @@ pub data Did (s : State) (x : Call) : Type 0 where
   ran : (lost : Bool) → is_lost_call x ≡ lost → step s x ≡ settled s lost → said s x ≡ answered s lost ∷ [] → Did s x
   left : bare (step s x) ≡ bare s → said s x ≡ [] → Did s x
 
-pub slot_run : (s : State) (lost : Bool) → slot_refusal s lost ≡ 0 → slot_of s lost ≡ record { state = settled s lost; answer = answered s lost }
-unfolding slot_of
-slot_run s lost e = rw e
+did_slot : (s : State) (lost : Bool) (v : Verdict) → slot_verdict s lost ≡ v → Did s (slot lost)
+unfolding step said slot_of answered
+did_slot s lost (Ok u) e = ran lost refl (rw (step, e)) (rw (said, e))
+did_slot s lost (Err why) e = left (rw (step, e)) (rw (said, e))
 
-pub slot_refused : (s : State) (lost : Bool) (r : ℕ) → slot_refusal s lost ≡ suc r
-    → slot_of s lost ≡ record { state = s; answer = record { number = suc r; used = Empty; word = 0; late = 0 } }
-unfolding slot_of
-slot_refused s lost r e = rw (e, eqb-suc-zero r)
-
-did_slot : (s : State) (lost : Bool) (r : ℕ) → slot_refusal s lost ≡ r → Did s (slot lost)
-unfolding step said answered
-did_slot s lost zero e =
-    let y = slot_run s lost e in
-    ran lost refl (ap (λ (q : Slotted). q.state) y) (ap (λ (q : Slotted). cond (eqb q.answer.number 0) (q.answer ∷ []) []) y)
-did_slot s lost (suc r) e =
-    let y = slot_refused s lost r e in
-    left (ap (λ (q : Slotted). bare q.state) y)
-    (ap (λ (q : Slotted). cond (eqb q.answer.number 0) (q.answer ∷ []) []) y ∙ rw (eqb-suc-zero r))
-
-pub request_run : (s : State) (name size : ℕ) → request_refusal s name size ≡ 0 → request_of s name size ≡ record { state = joined s name size; number = 0 }
-unfolding request_of
-request_run s name size e = rw e
-
-pub request_refused : (s : State) (name size r : ℕ) → request_refusal s name size ≡ suc r → request_of s name size ≡ record { state = s; number = suc r }
-unfolding request_of
-request_refused s name size r e = rw (e, eqb-suc-zero r)
-
-did_request : (s : State) (name size r : ℕ) → request_refusal s name size ≡ r → Did s (request name size)
-unfolding step said joined with_figures
-did_request s name size zero e = left (ap (λ (y : Requested). bare y.state) (request_run s name size e)) refl
-did_request s name size (suc r) e = left (ap (λ (y : Requested). bare y.state) (request_refused s name size r e)) refl
+did_request : (s : State) (name size : ℕ) (v : Verdict) → request_verdict s name size ≡ v → Did s (request name size)
+unfolding step said request_of joined with_figures
+did_request s name size (Ok u) e = left (rw (step, e)) refl
+did_request s name size (Err why) e = left (rw (step, e)) refl
 
 pub did : (s : State) (x : Call) → Did s x
-did s (slot lost) = did_slot s lost (slot_refusal s lost) refl
-did s (request name size) = did_request s name size (request_refusal s name size) refl
+did s (slot lost) = did_slot s lost (slot_verdict s lost) refl
+did s (request name size) = did_request s name size (request_verdict s name size) refl
 
 moment_none : (s : State) (x : ℕ) → (moment s [] x).state ≡ s
 unfolding moment

@@ -4,13 +4,14 @@ use Rattle.std.specs.Prelude.{ℕ, suc, ◌+◌, ◌≡◌, List, [], ◌∷◌,
 use Rattle.seq.specs.Places.{flag}
 use Rattle.law.specs.Age.{released}
 use Rattle.law.specs.Judge as judge
+use Rattle.table.specs.Verdicts.{Taken}
 use Rattle.engine.specs.declared.Answer.{Answer}
 use Rattle.uses.specs.declared.Use.{Use}
 use Rattle.uses.specs.declared.Use.TheVariants.{Hard, Given, Empty, Lost}
 use Rattle.uses.specs.Uses.{is_lost}
 
 abbrev pub no_answer : Answer
-no_answer = record { number = 0; used = Empty; word = 0; late = 0 }
+no_answer = record { verdict = Taken; used = Empty; word = 0; late = 0 }
 
 -- the answer of slot x
 abbrev pub answer_at : List Answer → ℕ → Answer

@@ -1,5 +1,6 @@
 -- Runs: any list of calls on a state, and the history of the answers. Each call is the engine's own.
-use Rattle.std.specs.Prelude.{ℕ, ◌-◌, List, [], ◌∷◌, ◌++◌, Bool, false, cond, eqb, ltb, length}
+use Rattle.std.specs.Prelude.{ℕ, ◌-◌, List, [], ◌∷◌, ◌++◌, Bool, false, cond, ltb, length}
+use Rattle.table.specs.Verdicts.{taken}
 use Rattle.engine.specs.declared.State.{State}
 use Rattle.engine.specs.declared.Answer.{Answer}
 use Rattle.engine.specs.Slot.{slot_of}
@@ -17,7 +18,7 @@ step s (request name size) = (request_of s name size).state
 
 -- what a call adds to the history: the answer of a slot that was run
 unfoldable pub said : State → Call → List Answer
-said s (slot lost) = cond (eqb (slot_of s lost).answer.number 0) ((slot_of s lost).answer ∷ []) []
+said s (slot lost) = taken (slot_of s lost).answer.verdict ((slot_of s lost).answer ∷ []) []
 said s (request name size) = []
 
 unfoldable pub run_of : State → List Call → State

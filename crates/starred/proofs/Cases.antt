@@ -8,7 +8,7 @@ use Rattle.law.specs.Sums.{sum, ceil}
 use Rattle.law.specs.Work.{least, holds, largest}
 use Rattle.table.specs.Form.{sound, unsound_row, falling_row, count_verdict, rows_verdict, periods_verdict, form_verdict}
 use Rattle.record.specs.Record.{column, rows_spelt, spelt, head_verdict, read_verdict, read_of}
-use Rattle.allowance.specs.Test.{lacking_row, smallest, allowances, test_verdict, test_of}
+use Rattle.allowance.specs.Test.{lacking_row, smallest, allowances, lacks_verdict, test_verdict, test_of}
 use Rattle.allowance.specs.Cases.{TablesRight}
 use Rattle.allowance.specs.Cases as tables
 use Rattle.allowance.proofs.Cases.{tables_right}
@@ -21,9 +21,9 @@ use Rattle.engine.specs.States.{with_figures}
 use Rattle.legal.specs.Legal.{figures_legal}
 use Rattle.engine.specs.Legal.{legal}
 use Rattle.uses.specs.Uses.{chosen}
-use Rattle.engine.specs.Slot.{left_released, left_used, lates, left_judged, counter₁, left₁, choice_of, use_of, late_of, settled, answered, slot_refusal, slot_of}
+use Rattle.engine.specs.Slot.{left_released, left_used, lates, left_judged, counter₁, left₁, choice_of, use_of, late_of, settled, answered, slot_verdict, slot_of}
 use Rattle.engine.specs.Start.{blank, start_of}
-use Rattle.engine.specs.Calls.{joined, request_refusal, request_of, late_total_of}
+use Rattle.engine.specs.Calls.{joined, request_verdict, request_of, late_total_of}
 use Rattle.promise.specs.Runs.{step, said, run_of, history, moment}
 use Rattle.promise.specs.History.{count}
 use Rattle.promise.specs.Demands.{InTime, told}
@@ -32,7 +32,7 @@ use Rattle.starred.specs.Cases.{Case, of_table, three_rows, listing_calls, runs,
 use Rattle.promise.proofs.Demands.{demand3a}
 
 computed : (map (λ x. x.gives) runs ≡ map (λ x. x.says) runs) × NotEmpty
-unfolding tab over lead every word bit sound unsound_row falling_row count_verdict rows_verdict periods_verdict form_verdict column rows_spelt spelt head_verdict read_verdict read_of sum ceil least holds largest lacking_row smallest allowances test_verdict test_of blank start_of idle reloaded due_word end_word released none_zero charged worked late_word dropped counted total rows_kept lates_kept served names_of sizes_of waiting proper with_figures legal figures_legal chosen left_released left_used lates left_judged counter₁ left₁ choice_of use_of late_of settled answered slot_refusal slot_of joined request_refusal request_of late_total_of step said run_of history moment count forced_use forced_left
+unfolding tab over lead every word bit sound unsound_row falling_row count_verdict rows_verdict periods_verdict form_verdict column rows_spelt spelt head_verdict read_verdict read_of sum ceil least holds largest lacking_row smallest allowances lacks_verdict test_verdict test_of blank start_of idle reloaded due_word end_word released none_zero charged worked late_word dropped counted total rows_kept lates_kept served names_of sizes_of waiting proper with_figures legal figures_legal chosen left_released left_used lates left_judged counter₁ left₁ choice_of use_of late_of settled answered slot_verdict slot_of joined request_verdict request_of late_total_of step said run_of history moment count forced_use forced_left
 computed = (
   refl,
   record { accepted = refl; allowance = refl; given = refl; waits = refl; none_lost = refl; too_many = refl; enough = refl },

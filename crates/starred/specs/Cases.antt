@@ -1,10 +1,10 @@
 -- The starred cases of document 01 and its listing, as one table: what the definitions give beside what the document says. Slots and rows
 -- have the document's numbers here, from 1 on; rows are written C, T, D.
-use Rattle.std.specs.Prelude.{ℕ, suc, ◌-◌, ◌≡◌, List, [], ◌∷◌, ◌++◌, map, true, false, not, length, replicate}
+use Rattle.std.specs.Prelude.{ℕ, suc, ◌-◌, ◌≡◌, Err, List, [], ◌∷◌, ◌++◌, map, true, false, not, length, replicate}
 use Rattle.seq.specs.Places.{lead}
 use Rattle.table.specs.declared.Table.{Table}
-use Rattle.table.specs.declared.Verdict.{Verdict}
-use Rattle.table.specs.declared.Verdict.TheVariants.{Refused}
+use Rattle.table.specs.declared.Refusal.TheVariants.{RowCount}
+use Rattle.table.specs.Verdicts.{Verdict}
 use Rattle.record.specs.Record.{read_of}
 use Rattle.allowance.specs.declared.Tested.{Tested}
 use Rattle.allowance.specs.Test.{test_of}
@@ -63,7 +63,8 @@ runs =
       says = first_given 15;
     }
     ∷ record { gives = lates_of (table_of ((1, 2, 1) ∷ [])) (slot true ∷ []); says = lates 1 1 }
-    ∷ record { gives = read (read_of (1 ∷ 0 ∷ 1 ∷ 0 ∷ [])).verdict; says = read (Refused 4 0) }
+    -- refusal 4
+    ∷ record { gives = read (read_of (1 ∷ 0 ∷ 1 ∷ 0 ∷ [])).verdict; says = read (Err RowCount) }
     ∷ []
 
 abbrev pub cases : List Case
