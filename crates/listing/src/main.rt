@@ -36,6 +36,7 @@ fn read_full(from: &mut impl Read, buf: &mut [u8]) -> io::Result<usize>
 struct Pending {
     bytes: [u8; 65536],
     used: usize,
+    ghost within: { used ≤ 65536 },
 }
 
 impl Pending {
@@ -47,6 +48,7 @@ impl Pending {
     }
 
     // Room for a whole line is made by sending what is there.
+    #[tactic(auto, unfolding(text::specs::Text::behind))]
     fn put(&mut self, rt: &impl Print, line: Line) -> io::Result<()> {
         if 65408 <= self.used {
             self.send(rt)?;
@@ -56,9 +58,7 @@ impl Pending {
     }
 
     fn send(&mut self, rt: &impl Print) -> io::Result<()> {
-        if let Some(said) = self.bytes.get(..self.used) {
-            rt.write_all(said)?;
-        }
+        rt.write_all(&self.bytes[..self.used])?;
         self.used = 0;
         Ok(())
     }
