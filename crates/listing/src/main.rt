@@ -31,64 +31,71 @@ fn read_full(from: &mut impl Read, buf: &mut [u8]) -> io::Result<usize>
     Ok(done)
 }
 
+// Lines that wait to be sent: the first `used` of the bytes.
+#[derive(Drop)]
+struct Pending {
+    bytes: [u8; 65536],
+    used: usize,
+    ghost within: { used ≤ 65536 },
+}
+
+impl Pending {
+    fn new() -> Pending {
+        Pending {
+            bytes: [0; 65536],
+            used: 0,
+        }
+    }
+
+    // Room for a whole line is made by sending what is there.
+    #[tactic(auto, unfolding(text::specs::Text::behind))]
+    fn put(&mut self, rt: &impl Print, line: Line) -> io::Result<()> {
+        if 65408 <= self.used {
+            self.send(rt)?;
+        }
+        self.used = text::append(&mut self.bytes, self.used, line);
+        Ok(())
+    }
+
+    fn send(&mut self, rt: &impl Print) -> io::Result<()> {
+        rt.write_all(&self.bytes[..self.used])?;
+        self.used = 0;
+        Ok(())
+    }
+}
+
 // The record says how the run opens; the events are handed on as the part behind it.
+#[tactic(auto, using(report::proofs::Run::parts_short))]
 fn list(rt: &impl Print, s: &[u8]) -> io::Result<()> {
-    let o = report::open(s);
-    let mut out = [0u8; 65536];
-    let used = text::append(&mut out, 0, o.line);
-    if o.going {
-        run(
+    let mut out = Pending::new();
+    match report::open(s) {
+        Ok(state) => run(
             rt,
             events::events(s),
             events::record_length(s),
-            o.state,
+            state,
             &mut out,
-            used,
-        )
-    } else {
-        send(rt, &out, used)
+        )?,
+        Err(line) => out.put(rt, line)?,
     }
+    out.send(rt)
 }
 
 // `head` bytes of the input stand before the events.
-fn run(
-    rt: &impl Print,
-    s: &[u8],
-    head: usize,
-    start: State,
-    out: &mut [u8],
-    filled: usize,
-) -> io::Result<()>
+#[tactic(auto, using(events::proofs::Run::event_within))]
+fn run(rt: &impl Print, s: &[u8], head: usize, start: State, out: &mut Pending) -> io::Result<()>
     requires { head + length s.now ≤ 65536 }
 {
     let mut state = start;
-    let mut used = filled;
-    let mut going = true;
     let mut p = 0;
-    while going {
+    loop {
         let e = events::event_at(s, p);
         let h = report::hear(state, e, head + p);
-        used = put(rt, &mut *out, used, h.line)?;
-        state = h.state;
-        going = h.going;
-        p = p + events::width(e);
+        out.put(rt, h.line)?;
+        let Some(next) = h.next else {
+            return out.put(rt, report::total(state));
+        };
+        state = next;
+        p += events::width(e);
     }
-    used = put(rt, &mut *out, used, report::total(state))?;
-    send(rt, &*out, used)
-}
-
-// Room for a whole line is made by sending what is there.
-fn put(rt: &impl Print, out: &mut [u8], used: usize, line: Line) -> io::Result<usize> {
-    if used < 65408 {
-        return Ok(text::append(out, used, line));
-    }
-    send(rt, out, used)?;
-    Ok(text::append(out, 0, line))
-}
-
-fn send(rt: &impl Print, out: &[u8], used: usize) -> io::Result<()> {
-    if used <= out.len() {
-        rt.write_all(&out[..used])?;
-    }
-    Ok(())
 }

@@ -1,7 +1,6 @@
 -- What the listing program prints for an input, event by event.
-use Rattle.std.specs.Prelude.{ℕ, zero, suc, ◌+◌, List, [], ◌++◌, Bool, true, false, cond, eqb, ltb, length}
-use Rattle.table.specs.declared.Verdict.{Verdict}
-use Rattle.table.specs.Verdicts.{number_of, row_named, taken, ◌and_then◌}
+use Rattle.std.specs.Prelude.{ℕ, zero, suc, ◌+◌, List, [], ◌++◌, Bool, true, false, cond, ltb, length, Some, None, Result, Ok, Err}
+use Rattle.table.specs.Verdicts.{Verdict, number_of, row_named, taken, ◌and_then◌}
 use Rattle.record.specs.Record.{read_of}
 use Rattle.engine.specs.declared.State.{State}
 use Rattle.engine.specs.declared.Started.{Started}
@@ -14,8 +13,8 @@ use Rattle.events.specs.declared.Event.TheVariants as event
 use Rattle.events.specs.Events.{record_of, record_length, event_at, width_of}
 use Rattle.lines.specs.Lines.{slot_line, refused_line, bad_line, total_line, long_line}
 use Rattle.text.specs.Text.{line_of}
+use Rattle.text.specs.declared.Line.{Line}
 use Rattle.report.specs.declared.Heard.{Heard}
-use Rattle.report.specs.declared.Opened.{Opened}
 
 -- The beginning: the record is read and the run started
 
@@ -36,24 +35,25 @@ opening_text s = cond (too_long s) long_line (taken (first_verdict s) [] (refuse
 unfoldable pub goes_ahead : List ℕ → Bool
 goes_ahead s = cond (too_long s) false (taken (first_verdict s) true false)
 
-unfoldable pub opened_of : List ℕ → Opened
-opened_of s = record { going = goes_ahead s; line = line_of (opening_text s); state = (start_in s).state }
+-- the state in which the run begins, or the line that is printed instead
+unfoldable pub opened_of : List ℕ → Result State Line
+opened_of s = cond (goes_ahead s) (Ok (start_in s).state) (Err (line_of (opening_text s)))
 
 -- An event
 
 -- a slot that is run prints its number, its use and the late word
 abbrev pub answer_text : ℕ → Answer → List ℕ
-answer_text slot a = cond (eqb a.number 0) (slot_line slot a.used a.word) (refused_line a.number 0)
+answer_text slot a = taken a.verdict (slot_line slot a.used a.word) (refused_line (number_of a.verdict) 0)
 
 -- a request that is taken prints nothing
-abbrev pub number_text : ℕ → List ℕ
-number_text number = cond (eqb number 0) [] (refused_line number 0)
+abbrev pub request_text : Verdict → List ℕ
+request_text v = taken v [] (refused_line (number_of v) 0)
 
 unfoldable pub event_text : State → Event → ℕ → List ℕ
 event_text s event.End p = []
 event_text s event.Slot p = answer_text s.next (slot_of s false).answer
 event_text s event.Lost p = answer_text s.next (slot_of s true).answer
-event_text s (event.Request name size) p = number_text (request_of s name size).number
+event_text s (event.Request name size) p = request_text (request_of s name size).verdict
 event_text s event.Bad p = bad_line p
 
 unfoldable pub event_state : State → Event → State
@@ -71,7 +71,7 @@ goes_on (event.Request name size) = true
 goes_on event.Bad = false
 
 unfoldable pub heard_of : State → Event → ℕ → Heard
-heard_of s e p = record { going = goes_on e; line = line_of (event_text s e p); state = event_state s e }
+heard_of s e p = record { line = line_of (event_text s e p); next = cond (goes_on e) (Some (event_state s e)) None }
 
 -- The end of a run that began
 unfoldable pub total_text : State → List ℕ

@@ -2,32 +2,24 @@
 
 #![tactic(auto)]
 
-ghost use Rattle.std.specs.Prelude.{◌≡◌, true};
+ghost use Rattle.std.specs.Prelude.{◌≡◌};
 ghost use Rattle.text.specs.Text.{line_of};
 ghost use Rattle.lines.specs.Lines.{refused_line};
 ghost use Rattle.table.specs.Verdicts.{number_of, row_named};
 ghost use Rattle.engine.specs.Slot.{slot_of};
 ghost use Rattle.engine.specs.Calls.{request_of};
-ghost use Rattle.report.specs.Listing.{opened_of, answer_text, number_text, heard_of, total_text};
+ghost use Rattle.report.specs.Listing.{opened_of, answer_text, request_text, heard_of, total_text};
 
 use engine::{Answer, State};
 use events::Event;
 use table::Verdict;
 use text::Line;
 
-// The line may be empty. Where `going` is false no event follows.
-#[derive(Clone, Copy)]
-pub struct Opened {
-    pub going: bool,
-    pub line: Line,
-    pub state: State,
-}
-
+// `next` is the state after the event, None where the event ends the run.
 #[derive(Clone, Copy)]
 pub struct Heard {
-    pub going: bool,
     pub line: Line,
-    pub state: State,
+    pub next: Option<State>,
 }
 
 fn refused(v: Verdict) -> Line
@@ -36,117 +28,87 @@ fn refused(v: Verdict) -> Line
     lines::refused_line(table::number_of(v), table::row_named(v))
 }
 
-// Reads the record and starts the run, or says why not.
-pub fn open(s: &[u8]) -> Opened
+// Reads the record and starts the run, or says in a line why not.
+#[tactic(auto, unfolding(crate::specs::Listing::opened_of, crate::specs::Listing::opening_text, crate::specs::Listing::goes_ahead))]
+pub fn open(s: &[u8]) -> Result<State, Line>
     ensures { result ≡ opened_of s.now }
 {
+    if 65536 < s.len() {
+        return Err(lines::long_line());
+    }
     let r = record::read(events::record(s));
-    let x = r.table;
-    let b = engine::start(x);
-    let state = b.state;
-    let long = 65536 < s.len();
-    if long {
-        return Opened {
-            going: false,
-            line: lines::long_line(),
-            state: state,
-        };
-    }
-    let v = r.verdict;
-    let Verdict::Taken = v else {
-        return Opened {
-            going: false,
-            line: refused(v),
-            state: state,
-        };
+    let Ok(()) = r.verdict else {
+        return Err(refused(r.verdict));
     };
-    let w = b.verdict;
-    let Verdict::Taken = w else {
-        return Opened {
-            going: false,
-            line: refused(w),
-            state: state,
-        };
+    let b = engine::start(r.table);
+    let Ok(()) = b.verdict else {
+        return Err(refused(b.verdict));
     };
-    Opened {
-        going: true,
-        line: text::blank(),
-        state: state,
-    }
+    Ok(b.state)
 }
 
 fn answer_line(slot: u64, a: Answer) -> Line
     ensures { result ≡ line_of (answer_text slot a) }
 {
-    if a.number == 0 {
-        let u = a.used;
-        lines::slot_line(slot, u, a.word)
-    } else {
-        lines::refused_line(a.number, 0)
+    match a.verdict {
+        Ok(()) => lines::slot_line(slot, a.used, a.word),
+        Err(why) => lines::refused_line(why.number(), 0),
     }
 }
 
-fn number_line(number: u8) -> Line
-    ensures { result ≡ line_of (number_text number) }
+fn request_line(v: Verdict) -> Line
+    ensures { result ≡ line_of (request_text v) }
 {
-    if number == 0 {
-        text::blank()
-    } else {
-        lines::refused_line(number, 0)
+    match v {
+        Ok(()) => text::blank(),
+        Err(why) => lines::refused_line(why.number(), 0),
     }
 }
 
 fn slot_heard(s: State, lost: bool) -> Heard
-    ensures { result ≡ record { going = true; line = line_of (answer_text s.next (slot_of s lost).answer); state = (slot_of s lost).state } }
+    ensures { result ≡ record { line = line_of (answer_text s.next (slot_of s lost).answer); next = Some (slot_of s lost).state } }
 {
-    let slot = s.next;
     let r = engine::slot(s, lost);
-    let line = answer_line(slot, r.answer);
-    let state = r.state;
     Heard {
-        going: true,
-        line: line,
-        state: state,
+        line: answer_line(s.next, r.answer),
+        next: Some(r.state),
     }
 }
 
 fn request_heard(s: State, name: u16, size: u16) -> Heard
-    ensures { result ≡ record { going = true; line = line_of (number_text (request_of s name size).number); state = (request_of s name size).state } }
+    ensures { result ≡ record { line = line_of (request_text (request_of s name size).verdict); next = Some (request_of s name size).state } }
 {
     let r = engine::request(s, name, size);
-    let line = number_line(r.number);
-    let state = r.state;
     Heard {
-        going: true,
-        line: line,
-        state: state,
+        line: request_line(r.verdict),
+        next: Some(r.state),
     }
 }
 
 // What is printed of an event at place p, and the state after it.
+#[tactic(auto, unfolding(crate::specs::Listing::heard_of, crate::specs::Listing::event_text, crate::specs::Listing::event_state))]
 pub fn hear(s: State, e: Event, p: usize) -> Heard
     ensures { result ≡ heard_of s e p }
 {
     match e {
         Event::End => Heard {
-            going: false,
             line: text::blank(),
-            state: s,
+            next: None,
         },
         Event::Slot => slot_heard(s, false),
         Event::Lost => slot_heard(s, true),
         Event::Request(name, size) => request_heard(s, name, size),
         Event::Bad => Heard {
-            going: false,
             line: lines::bad_line(p),
-            state: s,
+            next: None,
         },
     }
 }
 
+#[tactic(auto, unfolding(crate::specs::Listing::total_text))]
 pub fn total(s: State) -> Line
     ensures { result ≡ line_of (total_text s) }
 {
-    let t = engine::late_total(s);
-    lines::total_line(s.hard, s.given, s.empty, s.lost, t.total)
+    let late = engine::late_total(s).total;
+    lines::total_line(s.hard, s.given, s.empty, s.lost, late)
 }
