@@ -14,7 +14,8 @@ ghost use Rattle.allowance.specs.Test.{lacks_verdict, allowances, smallest, test
 use table::formed::Formed;
 use table::{Refusal, Table, Verdict};
 
-// k is the smallest of the allowances, `each` has them all. Zero where the table is refused.
+// k is the smallest of the allowances, `each` has them all. Zero where the table is refused: `RefusedZero` says so, and the C face hands
+// the zeros on; so the verdict stands beside the figures, and no Result holds them.
 #[derive(Clone, Copy)]
 pub struct Tested {
     pub verdict: Verdict,
@@ -59,7 +60,7 @@ fn slack_of(x: &Formed, i: usize) -> u64
     s
 }
 
-// The largest number that row i holds, if it holds 0.
+// The largest number that row i holds, if it holds 0. `as`, for it is below the deadline: `try_from` would give an Err that cannot come.
 fn row_room(x: &Formed, i: usize) -> Option<u16>
     requires { i < x.now.table.n }
     ensures { result ≡ room_of x.now.table.c x.now.table.t i (at x.now.table.d i) }

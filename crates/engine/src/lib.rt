@@ -37,7 +37,8 @@ pub struct State {
     pub lost: u64,
 }
 
-// Bit 0 of the late word for row 1.
+// Bit 0 of the late word for row 1. A refused slot is answered with empty and zeros, as `Demand1` says, so the verdict stands beside them;
+// so, too, in the answers below: document 01 gives zeros or the old state with a refusal.
 #[derive(Clone, Copy)]
 pub struct Answer {
     pub verdict: Verdict,

@@ -23,8 +23,8 @@ fn row_sound(used: bool, c: u16, t: u16, d: u16) -> bool
     (pick(used, 1, 0) <= c) & (c <= d) & (d <= t) & (t <= pick(used, 4096, 0))
 }
 
-// All places take the same test in one walk, with no early way out; j is i in 16 bits, as wide as what is compared beside
-// it: a cast of i would be compared in 32.
+// All places take the same test in one walk, with no early way out; m and j are n and i in 16 bits, as wide as what is compared
+// beside them: i itself, cast, would be compared in 32. Seven figures, and no struct or state that holds them: see `engine`.
 fn all_kept<'a>(
     n: usize,
     c: &'a [u16; 16],

@@ -6,6 +6,7 @@ ghost use Rattle.std.specs.Prelude.{◌≡◌};
 ghost use Rattle.text.specs.Text.{line_of, extended};
 ghost use Rattle.lines.specs.Lines.{spaced, use_text, slot_line, refused_line, bad_line, total_line, long_line};
 
+// `as u64` of a usize below: the library has no From there, and `try_from` would give an Err that cannot come.
 use text::{Line, blank, put, put_number};
 use uses::Use;
 

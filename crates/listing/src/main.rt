@@ -16,7 +16,7 @@ fn main(rt: HostRuntime) -> io::Result<()> {
     list(&rt, &input[..n])
 }
 
-// Reads until the buffer is full or the input ends. Gives how many bytes were put at its start.
+// Reads until the buffer is full or the input ends; `read_to_end` would want a heap. Gives how many bytes were put at its start.
 fn read_full(from: &mut impl Read, buf: &mut [u8]) -> io::Result<usize>
     ensures { IfOk result (λ n. n ≤ length buf.new) }
 {

@@ -10,12 +10,14 @@ ghost use Rattle.record.specs.Record.{row_place, row_spelt, spelt, head_verdict,
 use seq::{big, byte};
 use table::{Refusal, Row, Table, Verdict, refuse};
 
+// The verdict stands beside the table, and no Result holds it: document 01 gives the all-zero table with a refusal.
 #[derive(Clone, Copy)]
 pub struct Reading {
     pub verdict: Verdict,
     pub table: Table,
 }
 
+// Length 0 where it is refused: `RestStays` speaks of it then, too.
 #[derive(Clone, Copy)]
 pub struct Written {
     pub verdict: Verdict,

@@ -35,7 +35,7 @@ pub fn has(w: u16, i: usize) -> bool
     i < 16 && (w >> i) % 2 == 1
 }
 
-// All bits from there on are 0: a walk over the set bits need go no further.
+// All bits from there on are 0: a walk over the set bits need go no further. `as`, for the library has no From of u32 to usize.
 pub fn top(w: u16) -> usize
     ensures { result ≡ top_of w }
 {

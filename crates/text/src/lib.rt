@@ -8,6 +8,8 @@ ghost use Rattle.text.specs.Text.{decimal, line_of, extended, said, with_text, b
 
 use itoa::Buffer;
 
+// Its length stands beside the bytes, for every caller to set: the functions below answer for any, also past 128, so no type with an
+// invariant takes its place.
 #[derive(Clone, Copy)]
 pub struct Line {
     pub bytes: [u8; 128],

@@ -95,6 +95,7 @@ pub fn used_for(lost: bool, choice: Choice, name: u16) -> Use
     }
 }
 
+// 16 for none, and no Option: `worked` and the demands' `row_served` speak of a place, and there is no place 16.
 pub fn row_served(used: Use) -> usize
     ensures { result ≡ row_served used }
 {
@@ -104,6 +105,7 @@ pub fn row_served(used: Use) -> usize
     }
 }
 
+// Four tests with one shape, since `Demand2` counts by each of their names.
 pub fn is_hard(used: Use) -> bool
     ensures { result ≡ is_hard used }
 {
@@ -128,6 +130,7 @@ pub fn is_lost(used: Use) -> bool
     matches!(used, Use::Lost)
 }
 
+// The C face has a use as two numbers.
 pub fn use_number(u: Use) -> u8
     ensures { result ≡ use_number u }
 {

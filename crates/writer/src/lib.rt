@@ -18,6 +18,7 @@ fn put_big(b: &mut [u8], p: usize, x: u16)
     b[p..p + 2].copy_from_slice(&x.to_be_bytes());
 }
 
+// `as`, for n is at most 16: `try_from` would give an Err that cannot come.
 fn put_head(b: &mut [u8], n: usize)
     requires { (n ≤ 16) × (4 ≤ length b.old) }
     ensures { b.new ≡ sets b.old 0 (head_bytes n) }
