@@ -1,12 +1,11 @@
-use Rattle.std.proofs.Common.{◌≡◌, ◌<◌, refl, sym, ap, ◌∙◌, arith}
-use borrow.Author.Tests.{lt-ltb, le-ltb}
-use native.Mathlib.Numerals.{add-one}
+use Rattle.std.proofs.Common.{◌≡◌, refl, sym, ap, ◌∙◌, arith}
+use borrow.Author.Tests.{le-ltb}
 use Rattle.std.specs.Prelude.{Ok}
 use Rattle.seq.specs.Places.{at, over}
-use Rattle.seq.proofs.Places.{lead_most, lead_miss, lead_hit, over_more}
+use Rattle.seq.proofs.Places.{lead_most, lead_miss, over_more}
 use Rattle.allowance.specs.Test.{lacking_row, lacks_verdict, allowances}
 use Rattle.allowance.proofs.Row.{none_held, some_held}
-use Rattle.allowance.proofs.Tests.{zero_held}
+use Rattle.allowance.proofs.Tests.{zero_held, lacks_at}
 use Rattle.allowance.proofs.row_rooms.Goals as goal
 
 pub loop-i-init : goal.loop-i-init
@@ -14,13 +13,10 @@ unfolding over
 loop-i-init c = (omega arith, refl)
 
 pub returns-in_default : goal.returns-in_default
-unfolding lacks_verdict lacking_row
 returns-in_default c =
     let l = c.loop-i in
     let x = c.args.x.now.table in
-    let h : l.i < x.n = omega arith in
-    let e = none_held x.c x.t l.i (at x.d l.i) (sym c.row_room.ensures ∙ c.in_default.is) in
-    rw (lead_hit x.n (zero_held x) l.i h e l.invariant.0, lt-ltb l.i x.n h, add-one)
+    lacks_at x l.i (omega arith) (none_held x.c x.t l.i (at x.d l.i) (sym c.row_room.ensures ∙ c.in_default.is)) l.invariant.0
 
 pub loop-i-preserved : goal.loop-i-preserved
 unfolding lacking_row

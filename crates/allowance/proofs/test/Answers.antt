@@ -1,7 +1,7 @@
 use Rattle.std.proofs.Common.{sym, ◌∙◌}
 use Rattle.table.proofs.Verdicts.{granted_ok, granted_err}
 use Rattle.allowance.specs.Test.{allowances, test_verdict, test_of}
-use Rattle.allowance.proofs.Tests.{taken_well, verdict_form}
+use Rattle.allowance.proofs.Tests.{taken_well, verdict_form, test_passes}
 use Rattle.allowance.proofs.test.Goals as goal
 
 pub least-requires : goal.least-requires
@@ -12,11 +12,10 @@ least-requires c =
     (taken_well x (verdict_form x v.0)).counted
 
 pub returns-in-Ok : goal.returns-in-Ok
-unfolding test_of
 returns-in-Ok c =
     let x = c.args.x in
     let v = granted_ok (test_verdict x) (allowances x) _ (sym c.allowed.ensures ∙ c.in-Ok.is) in
-    rw (v.0, c.least.ensures, v.1)
+    test_passes x c.least.result c.in-Ok.each v.0 v.1 c.least.ensures
 
 pub returns-in-Err : goal.returns-in-Err
 unfolding test_of
