@@ -9,16 +9,18 @@ use Rattle.seq.proofs.Tests.{both_true}
 use Rattle.kept.specs.Kept.{rows_kept, lates_kept}
 use Rattle.late.proofs.Counts.{Within}
 use Rattle.kept.proofs.Kept.{lates_within}
-use Rattle.legal.specs.Legal.{last_slot, clock_legal, figures_legal}
+use Rattle.legal.specs.Legal.{last_slot, clock_legal, figures_legal, slot_refusal, request_refusal}
 use Rattle.kept.specs.Kept.{table_legal}
 use Rattle.legal.proofs.Parts.{parts}
 use Rattle.queue.specs.Queue.{proper}
 use Rattle.engine.specs.declared.State.{State}
+use Rattle.engine.specs.declared.Requested.{Requested}
 use Rattle.engine.specs.Legal.{ran, legal}
 use Rattle.table.specs.declared.Refusal.TheVariants.{SizeZero, QueueFull, RunOver, StateIllegal}
-use Rattle.table.specs.Verdicts.{Taken, refuse, ◌and_then◌}
+use Rattle.std.specs.Prelude.{Ok, Err, is_ok}
+use Rattle.table.specs.Verdicts.{Verdict, Taken, refuse, ◌and_then◌}
 use Rattle.engine.specs.Slot.{slot_verdict}
-use Rattle.engine.specs.Calls.{request_verdict}
+use Rattle.engine.specs.Calls.{request_verdict, request_of}
 
 module _ (s : State) where
   pub record Legal : Type 0 where
@@ -75,6 +77,10 @@ slot_passed true true e = (refl, cc)
 slot_passed true false e = (refl, refl)
 slot_passed false z e = (cc, cc)
 
+pub slot_tested : (s : State) (lost : Bool) {ok : Bool} {v : Verdict} → ok ≡ legal s → v ≡ slot_refusal ok s.next → v ≡ slot_verdict s lost
+unfolding slot_verdict
+slot_tested s lost e f = rw (← e) f
+
 pub slot_legal : (s : State) (lost : Bool) → slot_verdict s lost ≡ Taken → Legal s × (s.next ≤ last_slot)
 unfolding slot_verdict
 slot_legal s lost e =
@@ -89,6 +95,16 @@ request_passed true true w e = (refl, cc, cc)
 request_passed true false true e = (refl, refl, cc)
 request_passed true false false e = (refl, refl, refl)
 request_passed false z w e = (cc, cc, cc)
+
+pub request_tested : (s : State) (name size : ℕ) {ok : Bool} {v : Verdict} → ok ≡ legal s → v ≡ request_refusal ok size s.count → v ≡ request_verdict s name size
+unfolding request_verdict
+request_tested s name size e f = rw (← e) f
+
+pub request_refused : (s : State) (name size : ℕ) (v : Verdict) → v ≡ request_verdict s name size → is_ok v ≡ false
+    → ◌≡◌ {A = Requested} (record { state = s; verdict = v }) (request_of s name size)
+unfolding request_of
+request_refused s name size (Ok tt) e f = cc
+request_refused s name size (Err why) e f = rw (← e)
 
 pub request_legal : (s : State) (name size : ℕ) → request_verdict s name size ≡ Taken → Legal s × (1 ≤ size) × (s.count < 32)
 unfolding request_verdict

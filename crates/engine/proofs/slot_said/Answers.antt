@@ -1,32 +1,31 @@
 use Rattle.std.proofs.Common.{◌≡◌, refl, sym, ◌∙◌, rules, length}
-use Rattle.table.specs.Verdicts.{Taken}
-use Rattle.engine.specs.Slot.{slot_verdict, slot_of}
+use Rattle.engine.specs.Slot.{slot_of}
 use Rattle.engine.specs.Said.{is_on}
-use Rattle.engine.proofs.Legality.{parts_legal, slot_legal}
+use Rattle.engine.proofs.Legality.{parts_legal, slot_tested, slot_legal}
 use Rattle.engine.proofs.Ran.{ran_is}
 use Rattle.engine.proofs.slot_said.Goals as goal
 
 pub returns-in-Err : goal.returns-in-Err
-unfolding slot_of slot_verdict
+unfolding slot_of
 returns-in-Err c =
     let ok = parts_legal c.args.s c.rows_legal.ensures c.run_legal.ensures c.is_proper.ensures in
-    let e = sym (rw ok at c.slot_refusal.ensures) ∙ c.in-Err.is in
+    let e = sym (slot_tested c.args.s (is_on c.args.lost) ok c.slot_refusal.ensures) ∙ c.in-Err.is in
     rw (e, c.refused-answer.ensures)
 
 pub overflow_sub-ran : goal.overflow_sub-ran
-unfolding slot_verdict
 overflow_sub-ran c =
     let ok = parts_legal c.args.s c.rows_legal.ensures c.run_legal.ensures c.is_proper.ensures in
-    let z = sym (rw ok at c.slot_refusal.ensures) ∙ c.in-Ok.is in
-    (slot_legal c.args.s (is_on c.args.lost) z).0.began
+    let lost = is_on c.args.lost in
+    let z = sym (slot_tested c.args.s lost ok c.slot_refusal.ensures) ∙ c.in-Ok.is in
+    (slot_legal c.args.s lost z).0.began
 
 pub returns-in-Ok : goal.returns-in-Ok
-unfolding slot_of slot_verdict
+unfolding slot_of
 returns-in-Ok c =
     let s = c.args.s in
     let lost = c.is_on-away.result in
     let ok = parts_legal s c.rows_legal.ensures c.run_legal.ensures c.is_proper.ensures in
-    let z : slot_verdict s lost ≡ Taken = sym (rw ok at c.slot_refusal.ensures) ∙ c.in-Ok.is in
+    let z = sym (slot_tested s lost ok c.slot_refusal.ensures) ∙ c.in-Ok.is in
     let names : length s.names ≡ 32 = search rules in
     let sizes : length s.sizes ≡ 32 = search rules in
     rw (← c.is_on-away.ensures, z)
