@@ -9,7 +9,7 @@ ghost use Rattle.law.specs.Work.{W};
 ghost use Rattle.law.specs.Slack.{slack};
 ghost use Rattle.table.specs.Verdicts.{granted};
 ghost use Rattle.allowance.specs.Row.{room_of};
-ghost use Rattle.allowance.specs.Test.{lacks_verdict, allowances, smallest, test_verdict, test_of};
+ghost use Rattle.allowance.specs.Test.{lacks_verdict, allowances, smallest, passed, test_verdict, test_of};
 
 use table::formed::Formed;
 use table::{Refusal, Table, Verdict};
@@ -86,37 +86,46 @@ fn row_rooms(x: &Formed) -> Result<[u16; 16], Refusal>
     Ok(each)
 }
 
-// The smallest of the first n.
+// The smallest of the rooms of its rows.
 #[tactic(auto, using(crate::proofs::Smallest::smallest_next), unfolding(crate::specs::Test::smallest))]
-fn least(each: &[u16; 16], n: usize) -> u16
-    requires { (1 ≤ n) × (n ≤ 16) }
-    ensures { result ≡ smallest (at each.now) (n - 1) }
+fn least(each: &[u16; 16], x: &Formed) -> u16
+    ensures { result ≡ smallest (at each.now) (x.now.table.n - 1) }
 {
     let mut k = each[0];
-    for i in 1..n {
+    for i in 1..x.table.n {
         k = k.min(each[i]);
     }
     k
 }
 
-// The allowances, or the first of 4, 5, 6 and 7.
-#[tactic(auto, unfolding(crate::specs::Test::test_verdict))]
-fn allowed(x: Table) -> Result<[u16; 16], Refusal>
-    ensures { result ≡ granted (test_verdict x) (allowances x) }
+// What a well-formed table gets, or refusal 7.
+#[tactic(auto, unfolding(crate::specs::Test::passed))]
+fn allowed(x: &Formed) -> Result<Tested, Refusal>
+    ensures { result ≡ granted (lacks_verdict x.now.table) (passed x.now.table) }
 {
-    let formed = x.formed()?;
-    row_rooms(&formed)
+    let each = row_rooms(x)?;
+    Ok(Tested {
+        verdict: Ok(()),
+        k: least(&each, x),
+        each,
+    })
 }
 
+// What an accepted table gets, or the first of 4, 5, 6 and 7.
+#[tactic(auto, unfolding(crate::specs::Test::test_verdict))]
+fn accepted(x: Table) -> Result<Tested, Refusal>
+    ensures { result ≡ granted (test_verdict x) (passed x) }
+{
+    let formed = x.formed()?;
+    allowed(&formed)
+}
+
+#[tactic(auto, using(table::proofs::Verdicts::granted_err), unfolding(crate::specs::Test::test_of))]
 pub fn test(x: Table) -> Tested
     ensures { result ≡ test_of x }
 {
-    match allowed(x) {
-        Ok(each) => Tested {
-            verdict: Ok(()),
-            k: least(&each, x.n),
-            each,
-        },
+    match accepted(x) {
+        Ok(tested) => tested,
         Err(why) => Tested {
             verdict: Err(why),
             k: 0,

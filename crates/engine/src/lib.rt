@@ -114,7 +114,7 @@ fn refused(why: Refusal) -> Said
     }
 }
 
-// What a slot's number says: it is refused with 10 or 11, if at all.
+// What a slot's number says: it is refused with 10 or 11, if at all. The C face has it as a number.
 fn verdict_told(number: u8) -> Verdict
     ensures { result ≡ verdict_told number }
 {
@@ -185,12 +185,12 @@ pub fn start(x: Table) -> Started
     }
 }
 
-// Every call on a state goes the same way: each figure into a local of its own, legality in its three parts, the steps on the
+// A slot and a request go the same way: each figure into a local of its own, legality in its three parts, the steps on the
 // locals, and a new state of the locals at the end. Nothing refers to the state itself, so the compiler never copies it whole,
 // and puts back only what a step changes. (`tests/copies` and docs/DESIGN-PASS.md: with one test of legality on `&State`, and
 // with steps on the fields of `s`, it copies.)
 
-// The steps of document 01 in their order. Whether the slot is lost is asked only after the choice.
+// The steps of document 01 in their order, for the C face: `lost` is a byte, and the answer is numbers. Whether the slot is lost is asked only after the choice.
 pub fn slot_said(s: State, lost: u8) -> SlotSaid
     ensures { result ≡ slot_said s lost }
 {
@@ -335,30 +335,13 @@ pub fn request(s: State, name: u16, size: u16) -> Requested
     }
 }
 
+// Nothing is stepped here, so the figures stay where they are.
 pub fn late_total(s: State) -> Summed
     ensures { result ≡ late_total_of s }
 {
-    let State {
-        n,
-        next,
-        c,
-        t,
-        d,
-        k,
-        left,
-        counter,
-        late,
-        count,
-        names,
-        sizes,
-        hard,
-        given,
-        empty,
-        lost: gone,
-    } = s;
-    let ok = kept::rows_legal(n, &c, &t, &d, &k, &left, &counter)
-        & legal::run_legal(n, next, &late, hard, given, empty, gone)
-        & queue::is_proper(count, &names, &sizes);
+    let ok = kept::rows_legal(s.n, &s.c, &s.t, &s.d, &s.k, &s.left, &s.counter)
+        & legal::run_legal(s.n, s.next, &s.late, s.hard, s.given, s.empty, s.lost)
+        & queue::is_proper(s.count, &s.names, &s.sizes);
     if !ok {
         return Summed {
             verdict: Err(Refusal::StateIllegal),
@@ -367,6 +350,6 @@ pub fn late_total(s: State) -> Summed
     }
     Summed {
         verdict: Ok(()),
-        total: late::late_total(&late),
+        total: late::late_total(&s.late),
     }
 }

@@ -16,7 +16,7 @@ fn row_bounds(c: u16, d: u16, k: u16, left: u16, counter: u16) -> bool
     (k <= d.saturating_sub(c)) & (counter <= k) & (left <= c)
 }
 
-// Past the rows the same bounds leave only zeros.
+// `Row::is_sound` without its branch: past the rows the same bounds leave only zeros.
 fn row_sound(used: bool, c: u16, t: u16, d: u16) -> bool
     ensures { result ≡ cond used (in_order c t d) (all_zero c t d) }
 {
@@ -25,14 +25,14 @@ fn row_sound(used: bool, c: u16, t: u16, d: u16) -> bool
 
 // All places take the same test in one walk, with no early way out; m and j are n and i in 16 bits, as wide as what is compared
 // beside them: i itself, cast, would be compared in 32. Seven figures, and no struct or state that holds them: see `engine`.
-fn all_kept<'a>(
+fn all_kept(
     n: usize,
-    c: &'a [u16; 16],
-    t: &'a [u16; 16],
-    d: &'a [u16; 16],
-    k: &'a [u16; 16],
-    left: &'a [u16; 16],
-    counter: &'a [u16; 16],
+    c: &[u16; 16],
+    t: &[u16; 16],
+    d: &[u16; 16],
+    k: &[u16; 16],
+    left: &[u16; 16],
+    counter: &[u16; 16],
 ) -> bool
     ensures { result ≡ every 16 (kept n c.now t.now d.now k.now left.now counter.now) }
 {
@@ -60,15 +60,15 @@ fn periods_rise(n: usize, t: &[u16; 16]) -> bool
     ok
 }
 
-// As `table::form`, but with no row to name and so no early way out; and the figures beside it.
-pub fn rows_legal<'a>(
+// As `Table::form`, but with no row to name and so no early way out; and the figures beside it.
+pub fn rows_legal(
     n: usize,
-    c: &'a [u16; 16],
-    t: &'a [u16; 16],
-    d: &'a [u16; 16],
-    k: &'a [u16; 16],
-    left: &'a [u16; 16],
-    counter: &'a [u16; 16],
+    c: &[u16; 16],
+    t: &[u16; 16],
+    d: &[u16; 16],
+    k: &[u16; 16],
+    left: &[u16; 16],
+    counter: &[u16; 16],
 ) -> bool
     ensures { result ≡ (table_legal n c.now t.now d.now
         && rows_kept n c.now d.now k.now left.now counter.now) }

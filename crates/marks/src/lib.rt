@@ -40,7 +40,7 @@ pub struct Marks {
 
 // After m slots: the rows whose period begins in the next, and those whose deadline ends with it. One remainder a row, and from
 // the last row on, so that no bit has to be placed.
-pub fn mark<'a>(t: &'a [u16; 16], d: &'a [u16; 16], n: usize, m: u64) -> Marks
+pub fn mark(t: &[u16; 16], d: &[u16; 16], n: usize, m: u64) -> Marks
     ensures { result ≡ record { due = due_word m n t.now; end = end_word m n t.now d.now } }
 {
     let mut due: u16 = 0;

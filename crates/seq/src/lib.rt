@@ -21,6 +21,7 @@ pub fn big(s: &[u8]) -> u16
     u16::from_be_bytes([byte(s, 0), byte(s, 1)])
 }
 
+// A function, and no `if` in place: of an `if` that joins before a store, proofs know the value by no name.
 pub fn pick(on: bool, x: u16, y: u16) -> u16
     ensures { result ≡ cond on x y }
 {

@@ -169,7 +169,7 @@ impl Table {
         self.row(i).is_sound(i < self.n)
     }
 
-    // The first row that is not as it should be.
+    // The first row that is not as it should be. A loop, and no `find`: what `find` says of its closure's calls did not lead to `unsound_row`.
     fn unsound_row(&self) -> Option<usize>
         ensures { result ≡ below 16 (unsound_row self.now.n self.now.c self.now.t self.now.d) }
     {

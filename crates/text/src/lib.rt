@@ -16,7 +16,8 @@ pub struct Line {
     pub length: usize,
 }
 
-// A text in a buffer, from place p on; what does not fit is left out. Gives the place behind.
+// A text in a buffer, from place p on; what does not fit is left out. Gives the place behind. The test comes first: past the end there is no
+// part to copy into.
 #[tactic(auto, using(seq::proofs::Bytes::sets_past, crate::proofs::Laid::part_set))]
 pub fn copy(out: &mut [u8], p: usize, t: &[u8]) -> usize
     ensures { (result ≡ p + min (length t.now) (length out.old - p)) × (out.new ≡ sets out.old p t.now) }

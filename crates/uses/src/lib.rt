@@ -28,7 +28,7 @@ pub enum Use {
 
 // The head request if no counter is 0, else the first row with work left, else the head in the background.
 #[tactic(auto, unfolding(crate::specs::Uses::chosen))]
-pub fn choose<'a>(left: &'a [u16; 16], counter: &'a [u16; 16], count: usize, n: usize) -> Choice
+pub fn choose(left: &[u16; 16], counter: &[u16; 16], count: usize, n: usize) -> Choice
     ensures { result ≡ chosen n count left.now counter.now }
 {
     let waits = 0 < count;
@@ -150,7 +150,7 @@ pub fn use_who(u: Use) -> usize
     }
 }
 
-// The use that its number tells, of a row or of the head request.
+// The use that its number tells, of a row or of the head request: the way back from the C face.
 pub fn use_told(number: u8, row: usize, name: u16) -> Use
     ensures { result ≡ use_told number row name }
 {

@@ -9,6 +9,7 @@ ghost use Rattle.table.specs.Verdicts.{granted};
 ghost use Rattle.record.specs.Record.{row_place, row_bytes, rows_bytes, head_bytes, write_verdict, written_of, buffer_of};
 
 use record::Written;
+use table::formed::Formed;
 use table::{Refusal, Row, Table, refuse};
 
 fn put_big(b: &mut [u8], p: usize, x: u16)
@@ -19,10 +20,11 @@ fn put_big(b: &mut [u8], p: usize, x: u16)
 }
 
 // `as`, for n is at most 16: `try_from` would give an Err that cannot come.
-fn put_head(b: &mut [u8], n: usize)
-    requires { (n ≤ 16) × (4 ≤ length b.old) }
-    ensures { b.new ≡ sets b.old 0 (head_bytes n) }
+fn put_head(b: &mut [u8], x: &Formed)
+    requires { 4 ≤ length b.old }
+    ensures { b.new ≡ sets b.old 0 (head_bytes x.now.table.n) }
 {
+    let n = x.table.n;
     b[0] = 1;
     put_big(b, 1, (1 + 6 * n) as u16);
     b[3] = n as u8;
@@ -37,39 +39,38 @@ fn put_row(b: &mut [u8], p: usize, row: Row)
     put_big(b, p + 4, row.d);
 }
 
-fn put_rows(b: &mut [u8], x: &Table)
-    requires { (x.now.n ≤ 16) × (row_place x.now.n ≤ length b.old) }
-    ensures { b.new ≡ sets b.old 4 (rows_bytes x.now x.now.n) }
+fn put_rows(b: &mut [u8], x: &Formed)
+    requires { row_place x.now.table.n ≤ length b.old }
+    ensures { b.new ≡ sets b.old 4 (rows_bytes x.now.table x.now.table.n) }
 {
-    for i in 0..x.n {
-        put_row(b, 4 + 6 * i, x.row(i));
+    for i in 0..x.table.n {
+        put_row(b, 4 + 6 * i, x.table.row(i));
     }
 }
 
-// The bytes that a table's record has, where there is room for them.
-#[tactic(auto, using(table::proofs::WellFormed::taken_few), unfolding(record::specs::Record::write_verdict))]
-fn record_length(x: &Table, room: usize) -> Result<usize, Refusal>
-    ensures { result ≡ granted (write_verdict x.now room) (row_place x.now.n) }
+// The record of a table for which there is room, written; its length, or the first of 4, 5, 6 and 12.
+#[tactic(auto, using(record::proofs::Record::record_put), unfolding(record::specs::Record::write_verdict, record::specs::Record::buffer_of))]
+fn put_record(x: Table, b: &mut [u8]) -> Result<usize, Refusal>
+    ensures { (result ≡ granted (write_verdict x (length b.old)) (row_place x.n)) × (b.new ≡ buffer_of x b.old) }
 {
-    x.form()?;
+    let formed = x.formed()?;
     let length = 4 + 6 * x.n;
-    refuse(room < length, Refusal::BufferShort)?;
+    refuse(b.len() < length, Refusal::BufferShort)?;
+    put_head(b, &formed);
+    put_rows(b, &formed);
     Ok(length)
 }
 
 // The record in the first bytes of the buffer; the rest stays, and so does all of it where the table is refused.
+#[tactic(auto, using(table::proofs::Verdicts::granted_err), unfolding(record::specs::Record::written_of))]
 pub fn write(x: Table, b: &mut [u8]) -> Written
     ensures { (result ≡ written_of x (length b.old)) × (b.new ≡ buffer_of x b.old) }
 {
-    match record_length(&x, b.len()) {
-        Ok(length) => {
-            put_head(b, x.n);
-            put_rows(b, &x);
-            Written {
-                verdict: Ok(()),
-                length,
-            }
-        }
+    match put_record(x, b) {
+        Ok(length) => Written {
+            verdict: Ok(()),
+            length,
+        },
         Err(why) => Written {
             verdict: Err(why),
             length: 0,

@@ -10,4 +10,4 @@ loop-i-init c = search rules
 pub loop-i-preserved : goal.loop-i-preserved
 loop-i-preserved c =
     let l = c.loop-i in
-    rw (c.put_row.ensures, c.row.ensures, l.invariant) (rows_more c.args.x.now c.args.b.now l.i)
+    rw (c.put_row.ensures, c.row.ensures, l.invariant) (rows_more c.args.x.now.table c.args.b.now l.i)
