@@ -6,7 +6,7 @@ use Prim.Native.Nat.{ℕ, ◌+◌, ◌-◌, ◌≤◌, ◌<◌}
 use native.Mathlib.Omega.{arith}
 use borrow.Author.Tests.{ltb-false}
 use lib.ListN.{length, length-drop}
-use Rattle.std.specs.Prelude.{Result, Ok, Err, is_ok, is_some}
+use Rattle.std.specs.Prelude.{Ok, Err, is_ok, is_some}
 use Rattle.std.specs.ControlFlow.{continue_value}
 use Rattle.std.specs.declared.ops.ControlFlow.TheVariants.{Continue, Break}
 use Rattle.seq.specs.Places.{flag}
