@@ -17,7 +17,7 @@ use std::ops::ControlFlow;
 use table::Verdict;
 use text::Line;
 
-// A run that does not begin: what is printed instead, and the state that the start gives, all zeros where record or table is refused.
+// Of a run that does not begin: what is printed instead, and the state that the start gives, all zeros where the record or the table is refused.
 #[derive(Clone, Copy)]
 pub struct Unopened {
     pub line: Line,
@@ -37,7 +37,7 @@ fn refused(v: Verdict) -> Line
     lines::refused_line(table::number_of(v), table::row_named(v))
 }
 
-// Reads the record and starts the run, or says in a line why not.
+// Reads the record and starts the run, or says in a line why not. The start comes first: its state is given of a long input too.
 #[tactic(auto, unfolding(crate::specs::Listing::opened_of, crate::specs::Listing::opening_text, crate::specs::Listing::goes_ahead))]
 pub fn open(s: &[u8]) -> Result<State, Unopened>
     ensures { result ≡ opened_of s.now }
