@@ -7,6 +7,7 @@ ghost use Rattle.std.specs.Prelude.{◌+◌, ◌≤◌, IfOk, length};
 use engine::State;
 use std::io;
 use std::io::Read;
+use std::ops::ControlFlow;
 use text::Line;
 
 // One byte more than is allowed, so that a longer input shows.
@@ -76,7 +77,7 @@ fn list(rt: &impl Print, s: &[u8]) -> io::Result<()> {
             state,
             &mut out,
         )?,
-        Err(line) => out.put(rt, line)?,
+        Err(unopened) => out.put(rt, unopened.line)?,
     }
     out.send(rt)
 }
@@ -92,10 +93,10 @@ fn run(rt: &impl Print, s: &[u8], head: usize, start: State, out: &mut Pending) 
         let e = events::event_at(s, p);
         let h = report::hear(state, e, head + p);
         out.put(rt, h.line)?;
-        let Some(next) = h.next else {
-            return out.put(rt, report::total(state));
-        };
-        state = next;
+        match h.next {
+            ControlFlow::Continue(next) => state = next,
+            ControlFlow::Break(last) => return out.put(rt, report::total(last)),
+        }
         p += events::width(e);
     }
 }

@@ -1,5 +1,6 @@
 -- What the listing program prints for an input, event by event.
-use Rattle.std.specs.Prelude.{ℕ, zero, suc, ◌+◌, List, [], ◌++◌, Bool, true, false, cond, ltb, length, Some, None, Result, Ok, Err}
+use Rattle.std.specs.Prelude.{ℕ, zero, suc, ◌+◌, List, [], ◌++◌, Bool, true, false, cond, ltb, length, Result, Ok, Err}
+use Rattle.std.specs.declared.ops.ControlFlow.TheVariants.{Continue, Break}
 use Rattle.table.specs.Verdicts.{Verdict, number_of, row_named, taken, ◌and_then◌}
 use Rattle.record.specs.Record.{read_of}
 use Rattle.engine.specs.declared.State.{State}
@@ -13,8 +14,8 @@ use Rattle.events.specs.declared.Event.TheVariants as event
 use Rattle.events.specs.Events.{record_of, record_length, event_at, width_of}
 use Rattle.lines.specs.Lines.{slot_line, refused_line, bad_line, total_line, long_line}
 use Rattle.text.specs.Text.{line_of}
-use Rattle.text.specs.declared.Line.{Line}
 use Rattle.report.specs.declared.Heard.{Heard}
+use Rattle.report.specs.declared.Unopened.{Unopened}
 
 -- The beginning: the record is read and the run started
 
@@ -35,9 +36,9 @@ opening_text s = cond (too_long s) long_line (taken (first_verdict s) [] (refuse
 unfoldable pub goes_ahead : List ℕ → Bool
 goes_ahead s = cond (too_long s) false (taken (first_verdict s) true false)
 
--- the state in which the run begins, or the line that is printed instead
-unfoldable pub opened_of : List ℕ → Result State Line
-opened_of s = cond (goes_ahead s) (Ok (start_in s).state) (Err (line_of (opening_text s)))
+-- the state in which the run begins, or the line that is printed instead, with what the start gives
+unfoldable pub opened_of : List ℕ → Result State Unopened
+opened_of s = cond (goes_ahead s) (Ok (start_in s).state) (Err (record { line = line_of (opening_text s); state = (start_in s).state }))
 
 -- An event
 
@@ -71,7 +72,7 @@ goes_on (event.Request name size) = true
 goes_on event.Bad = false
 
 unfoldable pub heard_of : State → Event → ℕ → Heard
-heard_of s e p = record { line = line_of (event_text s e p); next = cond (goes_on e) (Some (event_state s e)) None }
+heard_of s e p = record { line = line_of (event_text s e p); next = cond (goes_on e) (Continue (event_state s e)) (Break (event_state s e)) }
 
 -- The end of a run that began
 unfoldable pub total_text : State → List ℕ

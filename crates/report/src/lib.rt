@@ -3,23 +3,32 @@
 #![tactic(auto)]
 
 ghost use Rattle.std.specs.Prelude.{◌≡◌};
+ghost use Rattle.std.specs.declared.ops.ControlFlow.TheVariants.{Continue};
 ghost use Rattle.text.specs.Text.{line_of};
 ghost use Rattle.lines.specs.Lines.{refused_line};
-ghost use Rattle.table.specs.Verdicts.{number_of, row_named};
+ghost use Rattle.table.specs.Verdicts.{number_of, row_named, taken};
 ghost use Rattle.engine.specs.Slot.{slot_of};
 ghost use Rattle.engine.specs.Calls.{request_of};
 ghost use Rattle.report.specs.Listing.{opened_of, answer_text, request_text, heard_of, total_text};
 
-use engine::{Answer, State};
+use engine::State;
 use events::Event;
+use std::ops::ControlFlow;
 use table::Verdict;
 use text::Line;
 
-// `next` is the state after the event, None where the event ends the run.
+// Of a run that does not begin: what is printed instead, and the state that the start gives, all zeros where the record or the table is refused.
+#[derive(Clone, Copy)]
+pub struct Unopened {
+    pub line: Line,
+    pub state: State,
+}
+
+// `next` holds the state after the event, and says whether the run goes on.
 #[derive(Clone, Copy)]
 pub struct Heard {
     pub line: Line,
-    pub next: Option<State>,
+    pub next: ControlFlow<State, State>,
 }
 
 fn refused(v: Verdict) -> Line
@@ -28,60 +37,63 @@ fn refused(v: Verdict) -> Line
     lines::refused_line(table::number_of(v), table::row_named(v))
 }
 
-// Reads the record and starts the run, or says in a line why not.
+// Reads the record and starts the run, or says in a line why not. The start comes first: its state is given of a long input too.
 #[tactic(auto, unfolding(crate::specs::Listing::opened_of, crate::specs::Listing::opening_text, crate::specs::Listing::goes_ahead))]
-pub fn open(s: &[u8]) -> Result<State, Line>
+pub fn open(s: &[u8]) -> Result<State, Unopened>
     ensures { result ≡ opened_of s.now }
 {
-    if 65536 < s.len() {
-        return Err(lines::long_line());
-    }
     let r = record::read(events::record(s));
-    let Ok(()) = r.verdict else {
-        return Err(refused(r.verdict));
-    };
     let b = engine::start(r.table);
-    let Ok(()) = b.verdict else {
-        return Err(refused(b.verdict));
-    };
-    Ok(b.state)
-}
-
-fn answer_line(slot: u64, a: Answer) -> Line
-    ensures { result ≡ line_of (answer_text slot a) }
-{
-    match a.verdict {
-        Ok(()) => lines::slot_line(slot, a.used, a.word),
-        Err(why) => lines::refused_line(why.number(), 0),
+    let state = b.state;
+    if 65536 < s.len() {
+        return Err(Unopened {
+            line: lines::long_line(),
+            state,
+        });
     }
+    let Ok(()) = r.verdict else {
+        return Err(Unopened {
+            line: refused(r.verdict),
+            state,
+        });
+    };
+    let Ok(()) = b.verdict else {
+        return Err(Unopened {
+            line: refused(b.verdict),
+            state,
+        });
+    };
+    Ok(state)
 }
 
-fn request_line(v: Verdict) -> Line
-    ensures { result ≡ line_of (request_text v) }
+// The line of a call that is taken, or the refusal without a row.
+fn unless_refused(v: Verdict, line: Line) -> Line
+    ensures { result ≡ taken v line (line_of (refused_line (number_of v) 0)) }
 {
     match v {
-        Ok(()) => text::blank(),
+        Ok(()) => line,
         Err(why) => lines::refused_line(why.number(), 0),
     }
 }
 
 fn slot_heard(s: State, lost: bool) -> Heard
-    ensures { result ≡ record { line = line_of (answer_text s.next (slot_of s lost).answer); next = Some (slot_of s lost).state } }
+    ensures { result ≡ record { line = line_of (answer_text s.next (slot_of s lost).answer); next = Continue (slot_of s lost).state } }
 {
     let r = engine::slot(s, lost);
+    let a = r.answer;
     Heard {
-        line: answer_line(s.next, r.answer),
-        next: Some(r.state),
+        line: unless_refused(a.verdict, lines::slot_line(s.next, a.used, a.word)),
+        next: ControlFlow::Continue(r.state),
     }
 }
 
 fn request_heard(s: State, name: u16, size: u16) -> Heard
-    ensures { result ≡ record { line = line_of (request_text (request_of s name size).verdict); next = Some (request_of s name size).state } }
+    ensures { result ≡ record { line = line_of (request_text (request_of s name size).verdict); next = Continue (request_of s name size).state } }
 {
     let r = engine::request(s, name, size);
     Heard {
-        line: request_line(r.verdict),
-        next: Some(r.state),
+        line: unless_refused(r.verdict, text::blank()),
+        next: ControlFlow::Continue(r.state),
     }
 }
 
@@ -93,14 +105,14 @@ pub fn hear(s: State, e: Event, p: usize) -> Heard
     match e {
         Event::End => Heard {
             line: text::blank(),
-            next: None,
+            next: ControlFlow::Break(s),
         },
         Event::Slot => slot_heard(s, false),
         Event::Lost => slot_heard(s, true),
         Event::Request(name, size) => request_heard(s, name, size),
         Event::Bad => Heard {
             line: lines::bad_line(p),
-            next: None,
+            next: ControlFlow::Break(s),
         },
     }
 }
