@@ -47,14 +47,12 @@ fn all_kept(
     ok
 }
 
-// No row's period is below the one before. The first row that is compared is m.min(1) and not 1, of which the compiler would make
-// a walk of one row at a time.
+// No row's period is below the one before.
 fn periods_rise(n: usize, t: &[u16; 16]) -> bool
     ensures { result ≡ every (min n 16) (rising t.now) }
 {
-    let m = n.min(16);
     let mut ok = true;
-    for i in m.min(1)..m {
+    for i in 1..n.min(16) {
         ok &= t[i - 1] <= t[i];
     }
     ok

@@ -1,3 +1,4 @@
+pub mod Dropped
 pub mod Counts
 pub mod Points
 pub mod Outcomes

@@ -49,39 +49,13 @@ pub fn charges(choice: Choice, lost: bool) -> bool
     matches!(choice, Choice::Give) & !lost
 }
 
-fn is_audio(choice: Choice) -> bool
-    ensures { result ≡ is_audio choice }
-{
-    matches!(choice, Choice::Hard(_))
-}
-
-fn is_idle(choice: Choice) -> bool
-    ensures { result ≡ is_idle choice }
-{
-    matches!(choice, Choice::Idle)
-}
-
-fn audio_row(choice: Choice) -> usize
-    ensures { result ≡ audio_row choice }
-{
-    match choice {
-        Choice::Hard(row) => row,
-        _ => 0,
-    }
-}
-
-// Tests and no match with three ways or four, of which the compiler would make a jump through a table; so too in `use_number`
-// and `use_who`.
 fn chosen_use(choice: Choice, name: u16) -> Use
     ensures { result ≡ chosen_use choice name }
 {
-    if is_audio(choice) {
-        return Use::Hard(audio_row(choice));
-    }
-    if is_idle(choice) {
-        Use::Empty
-    } else {
-        Use::Given(name)
+    match choice {
+        Choice::Give | Choice::Back => Use::Given(name),
+        Choice::Hard(row) => Use::Hard(row),
+        Choice::Idle => Use::Empty,
     }
 }
 
@@ -134,19 +108,21 @@ pub fn is_lost(used: Use) -> bool
 pub fn use_number(u: Use) -> u8
     ensures { result ≡ use_number u }
 {
-    u8::from(is_hard(u)) + 2 * u8::from(is_given(u)) + 3 * u8::from(is_lost(u))
+    match u {
+        Use::Empty => 0,
+        Use::Hard(_) => 1,
+        Use::Given(_) => 2,
+        Use::Lost => 3,
+    }
 }
 
 pub fn use_who(u: Use) -> usize
     ensures { result ≡ use_who u }
 {
-    if let Use::Hard(row) = u {
-        return row;
-    }
-    if let Use::Given(name) = u {
-        usize::from(name)
-    } else {
-        0
+    match u {
+        Use::Hard(row) => row,
+        Use::Given(name) => usize::from(name),
+        Use::Empty | Use::Lost => 0,
     }
 }
 
