@@ -4,7 +4,7 @@ use record::Reading;
 use std::fmt;
 use table::{Row, Table, Verdict, number_of, row_named};
 
-// The number of rows, and each row that is not zero with its own number: a row past the last is seen too.
+// The number of rows, and each row that is not zero with its own number: a row past the last is seen too. By place, for a table is three arrays.
 #[derive(Clone, Copy)]
 pub struct Figures<'a>(pub &'a Table);
 

@@ -19,7 +19,7 @@ fn case(rt: &impl Print, x: Table, b: &mut [u8]) -> io::Result<()> {
     )
 }
 
-// Buffers hold nines before: as long as the record, longer, and one byte short.
+// Buffers hold nines before: as long as the record, longer, and one byte short. One after the other, for each has a length of its own.
 fn room(rt: &impl Print) -> io::Result<()> {
     case(rt, first(), &mut [9; 22])?;
     case(rt, first(), &mut [9; 24])?;

@@ -15,7 +15,7 @@ use table::{Refusal, Table, Verdict};
 use uses::Use;
 
 // Of each row its table figures, its allowance, the work left, its counter and its late count; the queue in 32 places; four tallies.
-// Rows past n and places past count are zero. Numbers only, so that C and Rust can lend it.
+// Rows past n and places past count are zero. Numbers only, and arrays of them with their count, so that C and Rust can lend it.
 #[repr(C)]
 #[derive(Clone, Copy)]
 pub struct State {
@@ -59,7 +59,7 @@ pub struct Slotted {
     pub answer: Answer,
 }
 
-// The same in numbers only. used: 0 empty, 1 hard, 2 given, 3 lost. who: the row that got the slot, from 1 on, or the name of
+// The same in numbers only, for C, to which no enum is lent. used: 0 empty, 1 hard, 2 given, 3 lost. who: the row that got the slot, from 1 on, or the name of
 // the request.
 #[repr(C)]
 #[derive(Clone, Copy)]
@@ -71,6 +71,7 @@ pub struct Said {
     pub who: usize,
 }
 
+// A state and an answer, as `Slotted`; so, too, `lent::RequestTold`. One generic struct of both would say no more than its two fields do.
 #[derive(Clone, Copy)]
 pub struct SlotSaid {
     pub state: State,

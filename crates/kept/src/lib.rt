@@ -16,7 +16,7 @@ fn row_bounds(c: u16, d: u16, k: u16, left: u16, counter: u16) -> bool
     (k <= d.saturating_sub(c)) & (counter <= k) & (left <= c)
 }
 
-// `Row::is_sound` without its branch: past the rows the same bounds leave only zeros.
+// `Row::is_sound` without its branch, with which a slot with 1 row misses its bar: past the rows the same bounds leave only zeros.
 fn row_sound(used: bool, c: u16, t: u16, d: u16) -> bool
     ensures { result ≡ cond used (in_order c t d) (all_zero c t d) }
 {
@@ -24,7 +24,7 @@ fn row_sound(used: bool, c: u16, t: u16, d: u16) -> bool
 }
 
 // All places take the same test in one walk, with no early way out; m and j are n and i in 16 bits, as wide as what is compared
-// beside them: i itself, cast, would be compared in 32. Seven figures, and no struct or state that holds them: see `engine`.
+// beside them: with i itself, cast, a request with 16 rows misses its bar. `as`, for m is at most 16. Seven figures, and no struct or state that holds them: see `engine`.
 fn all_kept(
     n: usize,
     c: &[u16; 16],
@@ -75,7 +75,7 @@ pub fn rows_legal(
     (1 <= n) & (n <= 16) & kept & periods_rise(n, t)
 }
 
-// Compared only where there are rows; the rest need only be zero, which is the quicker test of numbers this wide.
+// A loop, and no `all`: what `all` says of its closure's calls did not lead to `every`. Compared only where there are rows; the rest need only be zero, which is the quicker test of numbers this wide.
 fn lates_low(n: usize, ran: u64, late: &[u64; 16]) -> bool
     ensures { result ≡ every (min n 16) (λ i. leb (at late.now i) ran) }
 {

@@ -1,4 +1,5 @@
-// The lines that the listing prints, as bytes.
+// The lines that the listing prints, as bytes. A usize goes to u64 by `as`: the library has no From there, and `try_from` would give an Err
+// that cannot come.
 
 #![tactic(auto)]
 
@@ -6,7 +7,6 @@ ghost use Rattle.std.specs.Prelude.{◌≡◌};
 ghost use Rattle.text.specs.Text.{line_of, extended};
 ghost use Rattle.lines.specs.Lines.{spaced, use_text, slot_line, refused_line, bad_line, total_line, long_line};
 
-// `as u64` of a usize below: the library has no From there, and `try_from` would give an Err that cannot come.
 use text::{Line, blank, put, put_number};
 use uses::Use;
 
@@ -39,6 +39,7 @@ pub fn slot_line(slot: u64, used: Use, word: u16) -> Line
     put(put_spaced(line, u64::from(word)), b"\n")
 }
 
+// Numbers, and no `Refusal`: it is the line of any number, and a slot or a request is refused with row 0 whatever it names.
 #[tactic(auto, using(text::proofs::Laid::line_put))]
 pub fn refused_line(number: u8, row: usize) -> Line
     ensures { result ≡ line_of (refused_line number row) }
@@ -56,6 +57,7 @@ pub fn bad_line(offset: usize) -> Line
     put(put_spaced(line, offset as u64), b"\n")
 }
 
+// Five numbers, and no struct of them: they are printed in this order, once.
 #[tactic(auto, using(text::proofs::Laid::line_put, crate::proofs::Counted::counted_more))]
 pub fn total_line(hard: u64, given: u64, empty: u64, lost: u64, late: u64) -> Line
     ensures { result ≡ line_of (total_line hard given empty lost late) }

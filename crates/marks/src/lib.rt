@@ -54,6 +54,7 @@ pub fn mark(t: &[u16; 16], d: &[u16; 16], n: usize, m: u64) -> Marks
     Marks { due, end }
 }
 
+// A loop of its own, into a word: see `late::count_late`.
 pub fn late_word(left: &[u16; 16], end: u16) -> u16
     ensures { result ≡ late_word end left.now }
 {

@@ -87,6 +87,7 @@ fn slot_heard(s: State, lost: bool) -> Heard
     }
 }
 
+// A line of no bytes, and no Option, where there is nothing to say: `listing` puts the text of each event behind the others.
 fn request_heard(s: State, name: u16, size: u16) -> Heard
     ensures { result ≡ record { line = line_of (request_text (request_of s name size).verdict); next = Continue (request_of s name size).state } }
 {

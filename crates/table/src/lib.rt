@@ -12,7 +12,7 @@ ghost use Rattle.table.specs.Form.{in_order, all_zero, sound, unsound_row, falli
 
 use formed::Formed;
 
-// Rows in priority order: C slots in each period of T, by the deadline D. Those past n are zero.
+// Rows in priority order: C slots in each period of T, by the deadline D. Those past n are zero. Three arrays, and no rows: C lends them so.
 #[repr(C)]
 #[derive(Clone, Copy)]
 pub struct Table {
@@ -48,6 +48,7 @@ pub enum Refusal {
 
 pub type Verdict = Result<(), Refusal>;
 
+// Methods, and no From: `u8::from(why)` would not say that it is the number.
 impl Refusal {
     pub fn number(self) -> u8
         ensures { result ≡ number self }
@@ -68,7 +69,7 @@ impl Refusal {
         }
     }
 
-    // The row that it names, 0 for none.
+    // The row that it names; 0 for none, as document 01's table has it, so no Option.
     pub fn row(self) -> usize
         ensures { result ≡ row self }
     {
@@ -114,6 +115,7 @@ impl Row {
         (1 <= self.c) & (self.c <= self.d) & (self.d <= self.t) & (self.t <= 4096)
     }
 
+    // Figure by figure, as document 01 and `in_order` have it.
     fn all_zero(self) -> bool
         ensures { result ≡ all_zero self.c self.t self.d }
     {
@@ -182,7 +184,7 @@ impl Table {
         None
     }
 
-    // The first row whose period is below the one before.
+    // The first row whose period is below the one before. A loop, as above.
     fn falling_row(&self) -> Option<usize>
         ensures { result ≡ below (min self.now.n 16) (falling_row self.now.n self.now.t) }
     {

@@ -5,7 +5,7 @@
 ghost use Rattle.std.specs.Prelude.{◌≡◌, ◌&&◌, not};
 ghost use Rattle.rows.specs.Rows.{none_zero};
 ghost use Rattle.uses.specs.Numbers.{use_number, use_who, use_told};
-ghost use Rattle.uses.specs.Uses.{chosen, is_give, is_audio, is_idle, audio_row, chosen_use, used_for, row_served, is_hard, is_given, is_empty, is_lost};
+ghost use Rattle.uses.specs.Uses.{chosen, is_give, chosen_use, used_for, row_served, is_hard, is_given, is_empty, is_lost};
 
 // Who should have a slot: the head request, the first row with work left by its number from 1 on, the head request in the
 // background, or nobody.

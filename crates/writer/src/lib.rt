@@ -6,7 +6,7 @@ ghost use Rattle.std.specs.Prelude.{◌≡◌, ◌++◌, ◌+◌, ◌≤◌, ◌
 ghost use Rattle.std.proofs.lemmas.List.Edits.{sets};
 ghost use Rattle.seq.specs.Bytes.{big_bytes};
 ghost use Rattle.table.specs.Verdicts.{granted};
-ghost use Rattle.record.specs.Record.{row_place, row_bytes, rows_bytes, head_bytes, write_verdict, written_of, buffer_of};
+ghost use Rattle.record.specs.Record.{row_place, rows_bytes, head_bytes, write_verdict, written_of, buffer_of};
 
 use record::Written;
 use table::formed::Formed;
