@@ -60,7 +60,7 @@ fn badly_formed(rt: &impl Print) -> io::Result<()> {
     )
 }
 
-pub fn all(rt: &impl Print) -> io::Result<()> {
+pub(crate) fn all(rt: &impl Print) -> io::Result<()> {
     line(rt)?;
     limits(rt)?;
     badly_formed(rt)

@@ -73,7 +73,7 @@ fn periods(rt: &impl Print) -> io::Result<()> {
     )
 }
 
-pub fn all(rt: &impl Print) -> io::Result<()> {
+pub(crate) fn all(rt: &impl Print) -> io::Result<()> {
     taken(rt)?;
     count(rt)?;
     rows(rt)?;

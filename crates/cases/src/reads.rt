@@ -60,7 +60,7 @@ fn seventeen(rt: &impl Print) -> io::Result<()> {
     each(rt, &[&rows, &fewer])
 }
 
-pub fn all(rt: &impl Print) -> io::Result<()> {
+pub(crate) fn all(rt: &impl Print) -> io::Result<()> {
     whole(rt)?;
     head(rt)?;
     form(rt)?;

@@ -47,7 +47,7 @@ fn back(rt: &impl Print, x: Table, b: &mut [u8]) -> io::Result<()> {
     )
 }
 
-pub fn all(rt: &impl Print) -> io::Result<()> {
+pub(crate) fn all(rt: &impl Print) -> io::Result<()> {
     room(rt)?;
     refused(rt)?;
     back(rt, first(), &mut [9; 24])?;

@@ -1,4 +1,4 @@
--- What a table's own type is for: its table, or the refusal.
+-- What `Table::formed` gives, seen without the fact that comes with it: the table, or the refusal.
 use Rattle.std.specs.Prelude.{Result, Ok, Err}
 use Rattle.table.specs.declared.Table.{Table}
 use Rattle.table.specs.declared.Refusal.{Refusal}
