@@ -186,7 +186,7 @@ pub fn start(x: Table) -> Started
     }
 }
 
-// A slot and a request go the same way: each figure into a local of its own, legality in its three parts, the steps on the
+// Every call on a state goes the same way: each figure into a local of its own, legality in its three parts, the steps on the
 // locals, and a new state of the locals at the end. Nothing refers to the state itself, so the compiler never copies it whole,
 // and puts back only what a step changes. (`tests/copies` and docs/DESIGN-PASS.md: with one test of legality on `&State`, and
 // with steps on the fields of `s`, it copies.)
@@ -336,13 +336,30 @@ pub fn request(s: State, name: u16, size: u16) -> Requested
     }
 }
 
-// Nothing is stepped here, so the figures stay where they are.
 pub fn late_total(s: State) -> Summed
     ensures { result ≡ late_total_of s }
 {
-    let ok = kept::rows_legal(s.n, &s.c, &s.t, &s.d, &s.k, &s.left, &s.counter)
-        & legal::run_legal(s.n, s.next, &s.late, s.hard, s.given, s.empty, s.lost)
-        & queue::is_proper(s.count, &s.names, &s.sizes);
+    let State {
+        n,
+        next,
+        c,
+        t,
+        d,
+        k,
+        left,
+        counter,
+        late,
+        count,
+        names,
+        sizes,
+        hard,
+        given,
+        empty,
+        lost: gone,
+    } = s;
+    let ok = kept::rows_legal(n, &c, &t, &d, &k, &left, &counter)
+        & legal::run_legal(n, next, &late, hard, given, empty, gone)
+        & queue::is_proper(count, &names, &sizes);
     if !ok {
         return Summed {
             verdict: Err(Refusal::StateIllegal),
@@ -351,6 +368,6 @@ pub fn late_total(s: State) -> Summed
     }
     Summed {
         verdict: Ok(()),
-        total: late::late_total(&s.late),
+        total: late::late_total(&late),
     }
 }

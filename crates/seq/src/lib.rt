@@ -2,10 +2,36 @@
 
 #![tactic(auto)]
 
-ghost use Rattle.std.specs.Prelude.{◌≡◌, cond};
+ghost use Rattle.std.specs.Prelude.{◌≡◌, cond, ◌&&◌, ◌||◌, ◌-◌, min};
 ghost use Rattle.seq.specs.Places.{at};
 ghost use Rattle.seq.specs.Words.{bit, top_of};
 ghost use Rattle.seq.specs.Bytes.{big_at};
+
+// Four names for what the language and its library have; the crates above use those.
+pub fn both(a: bool, b: bool) -> bool
+    ensures { result ≡ (a && b) }
+{
+    a & b
+}
+
+pub fn either(a: bool, b: bool) -> bool
+    ensures { result ≡ (a || b) }
+{
+    a | b
+}
+
+// One less, and 0 stays.
+pub fn less(x: u16) -> u16
+    ensures { result ≡ x - 1 }
+{
+    x.saturating_sub(1)
+}
+
+pub fn lesser(a: usize, b: usize) -> usize
+    ensures { result ≡ min a b }
+{
+    a.min(b)
+}
 
 // The byte at a place, 0 past the end.
 pub fn byte(s: &[u8], p: usize) -> u8

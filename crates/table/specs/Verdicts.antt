@@ -37,17 +37,20 @@ row RunOver = 0
 row StateIllegal = 0
 row BufferShort = 0
 
+-- what a reason says, 0 where there is none
+abbrev pub said_of : {E : Type 0} → (E → ℕ) → Result Unit E → ℕ
+said_of says (Ok x) = 0
+said_of says (Err why) = says why
+
 abbrev pub number_of : Verdict → ℕ
-number_of (Ok x) = 0
-number_of (Err why) = number why
+number_of v = said_of number v
 
 abbrev pub row_named : Verdict → ℕ
-row_named (Ok x) = 0
-row_named (Err why) = row why
+row_named v = said_of row v
 
 -- refused for a reason where b
-abbrev pub refuse : Bool → Refusal → Verdict
-refuse b why = cond b (Err why) Taken
+abbrev pub refuse : {E : Type 0} → Bool → E → Result Unit E
+refuse b why = cond b (Err why) (Ok tt)
 
 -- the first refusal of two
 infixl 20 ◌and_then◌

@@ -4,9 +4,9 @@
 
 pub mod formed;
 
-ghost use Rattle.std.specs.Prelude.{◌≡◌, cond, min, replicate};
+ghost use Rattle.std.specs.Prelude.{◌≡◌, ℕ, cond, min, replicate};
 ghost use Rattle.seq.specs.Places.{at, below};
-ghost use Rattle.table.specs.Verdicts.{number, row, number_of, row_named, refuse, granted};
+ghost use Rattle.table.specs.Verdicts.{number, row, said_of, refuse, granted};
 ghost use Rattle.table.specs.Formed.{tables_of};
 ghost use Rattle.table.specs.Form.{in_order, all_zero, sound, unsound_row, falling_row, count_verdict, rows_verdict, periods_verdict, form_of};
 
@@ -80,26 +80,68 @@ impl Refusal {
     }
 }
 
-pub fn number_of(v: Verdict) -> u8
-    ensures { result ≡ number_of v }
-{
-    match v {
-        Ok(()) => 0,
-        Err(why) => why.number(),
+// Why something is refused, said in numbers: which reason, and the row that it names or 0. Document 01's reasons are of this kind, and so are
+// any two numbers.
+pub trait Reason {
+    ghost said_number: { Self → ℕ };
+
+    ghost said_row: { Self → ℕ };
+
+    fn said_number(self) -> u8
+        ensures { result ≡ said_number self };
+
+    fn said_row(self) -> usize
+        ensures { result ≡ said_row self };
+}
+
+impl Reason for Refusal {
+    ghost said_number = { number };
+
+    ghost said_row = { row };
+
+    fn said_number(self) -> u8 {
+        self.number()
+    }
+
+    fn said_row(self) -> usize {
+        self.row()
     }
 }
 
-pub fn row_named(v: Verdict) -> usize
-    ensures { result ≡ row_named v }
+impl Reason for (u8, usize) {
+    ghost said_number = { λ told. told.0 };
+
+    ghost said_row = { λ told. told.1 };
+
+    fn said_number(self) -> u8 {
+        self.0
+    }
+
+    fn said_row(self) -> usize {
+        self.1
+    }
+}
+
+pub fn number_of<E: Reason>(v: Result<(), E>) -> u8
+    ensures { result ≡ said_of E.said_number v }
 {
     match v {
         Ok(()) => 0,
-        Err(why) => why.row(),
+        Err(why) => why.said_number(),
+    }
+}
+
+pub fn row_named<E: Reason>(v: Result<(), E>) -> usize
+    ensures { result ≡ said_of E.said_row v }
+{
+    match v {
+        Ok(()) => 0,
+        Err(why) => why.said_row(),
     }
 }
 
 // Refused for that reason where told, else taken.
-pub fn refuse(b: bool, why: Refusal) -> Verdict
+pub fn refuse<E: Drop>(b: bool, why: E) -> Result<(), E>
     ensures { result ≡ refuse b why }
 {
     if b {

@@ -40,17 +40,19 @@ pub fn blank() -> Line
     }
 }
 
-// A text behind a line.
+// A text behind a line. The bytes are a local of their own: a line that is changed as a whole is copied by a call of memcpy.
 #[tactic(auto, unfolding(crate::specs::Text::extended))]
-pub fn put(mut line: Line, t: &[u8]) -> Line
+pub fn put(line: Line, t: &[u8]) -> Line
     ensures { result ≡ extended line t.now }
 {
-    let end = line.length;
-    line.length = copy(&mut line.bytes, end, t);
-    line
+    let Line { mut bytes, length } = line;
+    let length = copy(&mut bytes, length, t);
+    Line { bytes, length }
 }
 
+// In place wherever it is called: a line is copied at each call that is not.
 #[tactic(auto, using(crate::proofs::Numbers::decimal_std))]
+#[inline(always)]
 pub fn put_number(line: Line, x: u64) -> Line
     ensures { result ≡ extended line (decimal x) }
 {
