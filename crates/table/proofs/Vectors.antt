@@ -1,12 +1,12 @@
 -- Tables of document 01, worked out by the definitions. The premises of the theorems can be met.
 use mathlib.Core.Path.{◌≡◌, refl}
-use mathlib.Core.List.{[], ◌∷◌, map}
+use mathlib.Core.List.{◌∷◌}
 use lib.ListN.{replicate}
 use Rattle.seq.specs.Places.{lead}
 use Rattle.table.specs.declared.Table.{Table}
 use Rattle.std.specs.Prelude.{Err}
-use Rattle.table.specs.declared.Refusal.TheVariants.{RecordShort, VersionUnknown, LengthWrong, RowCount, RowUnsound, PeriodFalls, RowLacks, SizeZero, QueueFull, RunOver, StateIllegal, BufferShort}
-use Rattle.table.specs.Verdicts.{Taken, number, row}
+use Rattle.table.specs.declared.Refusal.TheVariants.{RowUnsound, PeriodFalls}
+use Rattle.table.specs.Verdicts.{Taken}
 use Rattle.table.specs.Form.{sound, unsound_row, falling_row, count_verdict, rows_verdict, periods_verdict, form_verdict, form_of}
 
 -- (1,3,3) (1,4,4) (1,6,6)
@@ -30,12 +30,3 @@ too_long = refl
 falling : form_verdict 2 (1 ∷ 1 ∷ replicate 14 0) (5 ∷ 4 ∷ replicate 14 0) (5 ∷ 4 ∷ replicate 14 0) ≡ Err (PeriodFalls 2)
 unfolding form_verdict count_verdict rows_verdict periods_verdict unsound_row falling_row sound lead
 falling = refl
-
--- Document 01's numbers, in its order, and the three reasons that name a row.
-numbers : map number (RecordShort ∷ VersionUnknown ∷ LengthWrong ∷ RowCount ∷ RowUnsound 16 ∷ PeriodFalls 2 ∷ RowLacks 1 ∷ SizeZero ∷ QueueFull ∷ RunOver ∷ StateIllegal ∷ BufferShort ∷ [])
-    ≡ 1 ∷ 2 ∷ 3 ∷ 4 ∷ 5 ∷ 6 ∷ 7 ∷ 8 ∷ 9 ∷ 10 ∷ 11 ∷ 12 ∷ []
-numbers = refl
-
-named : map row (RecordShort ∷ VersionUnknown ∷ LengthWrong ∷ RowCount ∷ RowUnsound 16 ∷ PeriodFalls 2 ∷ RowLacks 1 ∷ SizeZero ∷ QueueFull ∷ RunOver ∷ StateIllegal ∷ BufferShort ∷ [])
-    ≡ 0 ∷ 0 ∷ 0 ∷ 0 ∷ 16 ∷ 2 ∷ 1 ∷ 0 ∷ 0 ∷ 0 ∷ 0 ∷ 0 ∷ []
-named = refl
