@@ -9,7 +9,7 @@ pub and_taken : (v w : Verdict) → v and_then w ≡ Taken → (v ≡ Taken) × 
 and_taken (Ok tt) w e = (refl, e)
 and_taken (Err why) w e = (cc, cc)
 
-pub refuse_taken : (b : Bool) (why : Refusal) → refuse b why ≡ Taken → b ≡ false
+pub refuse_taken : {E : Type 0} (b : Bool) (why : E) → refuse b why ≡ Ok tt → b ≡ false
 refuse_taken true why e = cc
 refuse_taken false why e = refl
 
