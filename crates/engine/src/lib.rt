@@ -186,9 +186,9 @@ pub fn start(x: Table) -> Started
     }
 }
 
-// Every call on a state goes the same way: each figure into a local of its own, legality in its three parts, the steps on the
-// locals, and a new state of the locals at the end. Nothing refers to the state itself, so the compiler never copies it whole,
-// and puts back only what a step changes. (`tests/copies` and docs/DESIGN-PASS.md: with one test of legality on `&State`, and
+// Every call on a state goes the same way: each figure into a local of its own, and legality in its three parts; a slot and a request
+// have their steps on the locals then, and a new state of the locals at the end. Nothing refers to the state itself, so the compiler
+// never copies it whole, and puts back only what a step changes. (`tests/copies` and docs/DESIGN-PASS.md: with one test of legality on `&State`, and
 // with steps on the fields of `s`, it copies.)
 
 // The steps of document 01 in their order, for the C face: `lost` is a byte, and the answer is numbers. Whether the slot is lost is asked only after the choice.

@@ -7,7 +7,7 @@ ghost use Rattle.seq.specs.Places.{at};
 ghost use Rattle.seq.specs.Words.{bit, top_of};
 ghost use Rattle.seq.specs.Bytes.{big_at};
 
-// Four names for what the language and its library have; the crates above use those.
+// `&`, `|`, `saturating_sub` and `min` under a contract that a law can name (proofs/OwnOutcomes). The crates above write the operations themselves.
 pub fn both(a: bool, b: bool) -> bool
     ensures { result ≡ (a && b) }
 {

@@ -1,13 +1,13 @@
 -- No two outcomes meet the contract of a public function.
+use denote.RattleType.{RattleType}
+use denote.Param.Laws.{Laws}
+use mir.Syntax.{Dict}
 use Rattle.seq.specs.Outcomes.{OneOutcome}
 use Rattle.seq.proofs.Outcomes.{one_outcome}
 use Rattle.table.proofs.number_of.Reads as number
 use Rattle.table.proofs.row_named.Reads as row_named
 use Rattle.table.proofs.refuse.Reads as refuse
 use Rattle.table.proofs.Table.form.Reads as form
-use denote.RattleType.{RattleType}
-use denote.Param.Laws.{Laws}
-use mir.Syntax.{Dict}
 use Rattle.table.specs.declared.Reason.{Ghosts}
 use Rattle.table.specs.Formed.{tables_of}
 use Rattle.table.proofs.Table.formed.Reads as formed
@@ -20,6 +20,7 @@ use Rattle.table.proofs.RefusalReason.said_row.Reads as said_row
 use Rattle.table.proofs.Tuple2U8UsizeReason.said_number.Reads as two_number
 use Rattle.table.proofs.Tuple2U8UsizeReason.said_row.Reads as two_row
 
+-- of every kind of reason: its type, the laws of that, what it says of itself, and how it is called
 number_of_one : (E : RattleType) (l : Laws E) (g : Ghosts E.Denot) (d : Dict) → OneOutcome (number.Post E l g d) (λ κs x s. x)
 number_of_one E l g d = one_outcome (number.Post E l g d) _ _ (λ κs a x s p. p)
 
